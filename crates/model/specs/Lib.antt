@@ -1,0 +1,15 @@
+pub mod Plans
+pub mod Routes
+pub mod Patterns
+pub mod Rules
+pub mod Records
+pub mod Questions
+pub mod Calls
+pub mod Runs
+pub mod Replies
+pub mod RecordLaws
+pub mod Examples
+pub mod Lengths
+pub mod Edges
+pub mod WorkedCalls
+pub mod PatternLaws
