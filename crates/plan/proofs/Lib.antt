@@ -1,0 +1,5 @@
+pub mod Leavings
+pub mod Indexes
+pub mod Described
+pub mod Sheets
+pub mod FirstFaults

@@ -1,0 +1,9 @@
+pub mod First
+pub mod Filed
+pub mod FirstFacts
+pub mod FiledFacts
+pub mod FiledMeaning
+pub mod Grid
+pub mod GridMeaning
+pub mod Shut
+pub mod FiledLaw
