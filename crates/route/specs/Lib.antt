@@ -1,0 +1,3 @@
+pub mod Tracks
+pub mod Reading
+pub mod Limits
