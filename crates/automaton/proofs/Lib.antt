@@ -1,0 +1,4 @@
+pub mod Glushkov
+pub mod Masks
+pub mod Connect
+pub mod Steps

@@ -1,0 +1,4 @@
+pub mod Readings
+pub mod Run
+pub mod Tables
+pub mod Step
