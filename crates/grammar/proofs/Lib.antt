@@ -1,0 +1,4 @@
+pub mod Leaving
+pub mod Complete
+pub mod Sound
+pub mod Plainly

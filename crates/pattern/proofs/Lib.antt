@@ -1,0 +1,3 @@
+pub mod Parsers
+pub mod Verdict
+pub mod Turns

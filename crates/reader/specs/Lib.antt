@@ -1,0 +1,4 @@
+pub mod Classes
+pub mod Words
+pub mod Tokens
+pub mod Symbols
