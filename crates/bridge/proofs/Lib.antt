@@ -1,0 +1,4 @@
+pub mod Spell
+pub mod Readings
+pub mod Walk
+pub mod Agreed
