@@ -1,0 +1,4 @@
+pub mod Events
+pub mod Rank
+pub mod Pairs
+pub mod Queries
