@@ -9,7 +9,7 @@ use lib.ListN.{length, getD, set, take, replicate}
 use Rattle.bits.specs.Bit.{Has}
 use Rattle.model.specs.Patterns.{Tree, name, empty, _then_, _or_, star, plus, maybe, Fits}
 use Rattle.model.specs.Patterns.{Letter}
-use Rattle.model.specs.Records.{letter, mark-word}
+use Rattle.model.specs.Records.{mark-word}
 use Rattle.std.specs.declared.option.Option.{Option}
 use Rattle.automaton.specs.Readings.{Pair, Word, Reads}
 use Rattle.automaton.specs.Run.{Set, Edges, Run, Frag, Accept, In, Means, Same, thenFrag, orFrag, starFrag, Stepped}
@@ -167,19 +167,6 @@ finish-recognises a f t le lt ht p m = recognised (at b) (edges b) (Has (b .acce
 
 pub empty-built : (a : Automaton) (lo : ℕ) → Compiled a (record { nullable = true; first = 0; last = 0 }) lo lo empty
 empty-built a lo = move (means-empty (at a) (edges a) lo) (λ s x i. same-in) (λ _. refl, λ _. tt) (λ q. (absurd, has-zero q)) (λ q. (absurd, has-zero q)) (λ s t i. same-in)
-
--- the mark of a word below 9, and back
-pub letter-back : (k : ℕ) → k < 9 → mark-word (letter k) ≡ k
-letter-back zero h = refl
-letter-back (suc zero) h = refl
-letter-back (suc (suc zero)) h = refl
-letter-back (suc (suc (suc zero))) h = refl
-letter-back (suc (suc (suc (suc zero)))) h = refl
-letter-back (suc (suc (suc (suc (suc zero))))) h = refl
-letter-back (suc (suc (suc (suc (suc (suc zero)))))) h = refl
-letter-back (suc (suc (suc (suc (suc (suc (suc zero))))))) h = refl
-letter-back (suc (suc (suc (suc (suc (suc (suc (suc zero)))))))) h = refl
-letter-back (suc (suc (suc (suc (suc (suc (suc (suc (suc k))))))))) h = absurd (omega arith)
 
 zeros : (a n k : ℕ) → getD (replicate n a) k a ≡ a
 zeros a zero k = refl

@@ -19,6 +19,9 @@ ghost use Rattle.automaton.specs.Step.{stepped};
 ghost use Rattle.automaton.specs.Tables.{Moves, Holds, Leads, Stands, frag, Compiled, Built, Within, Known, FitAt, Recognises, Keeps, InTurn, Either};
 use model::Label;
 
+// The set that has only the state before the first passage.
+const START: u32 = 2147483648;
+
 /// The tables: `follow[s]` has the positions that may come after the state s, `fits[k]` those of the kind k, `any` those
 /// of every kind, `marked[m]` those with the mark m, and `accept` the states in which a pattern may end.
 #[derive(Clone, Copy)]
@@ -178,22 +181,22 @@ impl Automaton {
     }
 
     /// `+`: one or more.
-    pub fn some(&mut self, a: Fragment) -> Fragment
+    pub fn some(&mut self, part: Fragment) -> Fragment
         ensures same { λ _. ⌜ Keeps (now (self .entry)) (now (self .exit)) ⌝ }
-        ensures built { λ r. ⌜ ((lo hi : ℕ) (p : Tree) → Compiled (now (self .entry)) a lo hi p → Built (now (self .entry)) (now (self .exit)) r lo hi (plus p)) ⌝ }
+        ensures built { λ r. ⌜ ((lo hi : ℕ) (p : Tree) → Compiled (now (self .entry)) part lo hi p → Built (now (self .entry)) (now (self .exit)) r lo hi (plus p)) ⌝ }
     {
-        link(&mut self.follow, a.last, a.first);
-        a
+        link(&mut self.follow, part.last, part.first);
+        part
     }
 
     /// `?`: zero or one.
-    pub fn optional(&self, a: Fragment) -> Fragment
-        ensures { λ r. ⌜ ((lo hi : ℕ) (p : Tree) → Compiled (now (self .entry)) a lo hi p → Compiled (now (self .entry)) r lo hi (maybe p)) ⌝ }
+    pub fn optional(&self, part: Fragment) -> Fragment
+        ensures { λ r. ⌜ ((lo hi : ℕ) (p : Tree) → Compiled (now (self .entry)) part lo hi p → Compiled (now (self .entry)) r lo hi (maybe p)) ⌝ }
     {
         Fragment {
             nullable: true,
-            first: a.first,
-            last: a.last,
+            first: part.first,
+            last: part.last,
         }
     }
 
@@ -204,7 +207,7 @@ impl Automaton {
         ensures { λ _. ⌜ ((p : Tree) → Compiled (now (self .entry)) f 0 (now (self .entry) .count) p → Recognises (now (self .exit)) p) ⌝ }
     {
         self.follow[31] = f.first;
-        self.accept = f.last | only_if(f.nullable, 1 << 31);
+        self.accept = f.last | only_if(f.nullable, START);
     }
 
     /// The set of states before the first passage.
@@ -213,7 +216,7 @@ impl Automaton {
         ensures holds { λ r. ⌜ Holds (now (self .entry)) [] r ⌝ }
         ensures stands { λ r. ⌜ ((p : Tree) → Recognises (now (self .entry)) p → Stands (now (self .entry)) p [] r) ⌝ }
     {
-        1 << 31
+        START
     }
 
     /// The states that a passage of the kind, collected under the mark, leads to.

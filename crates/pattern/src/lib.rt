@@ -19,6 +19,9 @@ use parser::Parser;
 use reader::Reader;
 use reader::next_symbol;
 
+// How many bytes a text may have.
+const LONGEST: usize = 512;
+
 /// A pattern that was read from a text.
 #[derive(Clone, Copy)]
 pub struct Pattern {
@@ -29,8 +32,8 @@ pub struct Pattern {
 fn compile(text: &[u8]) -> Result<Automaton, PatternFault>
     ensures { λ r. ⌜ Compiles (now (text .entry)) r ⌝ }
 {
-    if text.len() > 512 {
-        return Err(PatternFault::Long(512));
+    if text.len() > LONGEST {
+        return Err(PatternFault::Long(LONGEST));
     }
     let mut reader = Reader::new(text);
     let mut parser = Parser::new();

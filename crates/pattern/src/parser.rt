@@ -14,6 +14,12 @@ use grammar::Symbol;
 use grammar::Times;
 use model::Label;
 
+// How many names a pattern may have.
+const MOST: usize = 31;
+
+// How many parentheses may be open together.
+const DEEPEST: usize = 16;
+
 /// What was read last: nothing, so that an atom is due; a name, which `^` may follow; a name and `^`, so that a letter is
 /// due; an atom, which `*`, `+` or `?` may follow; an item. A name gets its position when it is known to have no letter,
 /// or which one.
@@ -135,7 +141,7 @@ impl Parser {
         ensures { λ r. ⌜ Took (now (self .entry)) (name label) place r (now (self .exit)) ⌝ }
     {
         self.settle(place)?;
-        if self.automaton.count >= 31 {
+        if self.automaton.count >= MOST {
             return Err(PatternFault::Names(place));
         }
         self.mode = Mode::Named(label);
@@ -201,7 +207,7 @@ impl Parser {
         ensures { λ r. ⌜ Took (now (self .entry)) opens place r (now (self .exit)) ⌝ }
     {
         self.settle(place)?;
-        if self.depth >= 16 {
+        if self.depth >= DEEPEST {
             return Err(PatternFault::Nested(place));
         }
         self.levels[self.depth] = Level {

@@ -17,8 +17,8 @@ in-text c = subst (λ (t : List ℕ). NextAt t (c .tokens .reader .at) (c .in-Co
 moved : (text : List ℕ) (from p q : ℕ) (o u : Option Symbol) → o ≡ u → NextAt text from o p q → NextAt text from u p q
 moved text from p q o u e h = subst (λ (x : Option Symbol). NextAt text from x p q) e h
 
-pub returns-then-text-gt512 : need.returns-then-text-gt512
-returns-then-text-gt512 c = too-long (c .args .text .now) (c .if-text-gt512 .taken)
+pub returns-then-text-gt-LONGEST : need.returns-then-text-gt-LONGEST
+returns-then-text-gt-LONGEST c = too-long (c .args .text .now) (c .if-text-gt-LONGEST .taken)
 
 pub tokens-holds : need.tokens-holds
 tokens-holds c =

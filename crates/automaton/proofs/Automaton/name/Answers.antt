@@ -7,10 +7,11 @@ use lib.Seq.{getD-set-same, getD-set-other}
 use borrow.Author.Needs.{needs}
 use Rattle.std.proofs.shelf.Bits.{one-shl}
 use Rattle.model.specs.Records.{letter}
+use Rattle.model.proofs.RecordLaws.{record-laws}
 use Rattle.bits.specs.Bit.{Has}
 use Rattle.bits.proofs.Bit.{has-zero}
 use Rattle.automaton.proofs.Masks.{mark-row}
-use Rattle.automaton.proofs.Connect.{name-built, name-within, letter-back}
+use Rattle.automaton.proofs.Connect.{name-built, name-within}
 use Rattle.automaton.proofs.Automaton.name.Needs as need
 
 pub returns : need.returns
@@ -24,7 +25,7 @@ returns c =
     record {
       count = refl;
       within = record { fits = w .0; marked = w .1 };
-      built = name-built (c .args .self .now) _ (c .args .label) (c .args .mark) ((1 * 2 ^ p) % 2 ^ 32) (letter (c .args .mark)) (letter-back (c .args .mark) (omega arith)) one
+      built = name-built (c .args .self .now) _ (c .args .label) (c .args .mark) ((1 * 2 ^ p) % 2 ^ 32) (letter (c .args .mark)) (record-laws .number-again (c .args .mark) (omega arith)) one
           (λ q h. has-zero q (rw getD-set-same at h))
           (λ s l. let ne : s ≢ p = omega arith in rw getD-set-other)
           (c .admit .ensures) hm (c .pre .1 .1 .1);

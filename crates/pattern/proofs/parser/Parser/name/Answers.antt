@@ -14,8 +14,8 @@ returns-in-Break-settle c n fs b q m h =
     let e = c .in-Break-settle .ensures tt n fs b q m h in
     rw (p .1, p .2, e .0) (refl, ap (machine.begun fs b (machine.named (c .args .label))) (e .1))
 
-pub returns-then-self-ge31 : need.returns-then-self-ge31
-returns-then-self-ge31 c n fs b q m h =
+pub returns-then-self-ge-MOST : need.returns-then-self-ge-MOST
+returns-then-self-ge-MOST c n fs b q m h =
     let (u, e, d, s) = c .in-Continue-settle .ensures tt n fs b q m h in
     (refl, λ z. some-none (ap (machine.begun fs b (machine.named (c .args .label))) e) z, c .args .label, refl, omega (arith, s .counted, s .few))
 

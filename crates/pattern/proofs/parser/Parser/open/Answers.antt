@@ -15,8 +15,8 @@ returns-in-Break-settle c n fs b q m h =
     let e = c .in-Break-settle .ensures tt n fs b q m h in
     rw (p .1, p .2, e .0) (refl, ap (machine.opened fs b) (e .1))
 
-pub returns-then-self-ge16 : need.returns-then-self-ge16
-returns-then-self-ge16 c n fs b q m h =
+pub returns-then-self-ge-DEEPEST : need.returns-then-self-ge-DEEPEST
+returns-then-self-ge-DEEPEST c n fs b q m h =
     let (u, e, d, s) = c .in-Continue-settle .ensures tt n fs b q m h in
     (refl, λ z. some-none (ap (machine.opened fs b) e) z, refl, omega (arith, s .deep, levels-length _ _ _ _ fs (s .levels)))
 
