@@ -21,7 +21,7 @@ use search::Search;
 /// A plan, a pattern and a rule, with the question posed and where its listing stands.
 #[derive(Drop)]
 pub struct Enquiry<P: Plan, R: Rule> {
-    pub search: Search<P, R>,
+    pub(crate) search: Search<P, R>,
 }
 
 impl<P: Plan, R: Rule> Enquiry<P, R> {
