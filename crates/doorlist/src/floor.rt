@@ -17,21 +17,34 @@ use plan::Plan;
 use plan::Sheet;
 use std::fs;
 
-const SOURCE: &str = "doorlist plan wants a FILE or --grid RxC";
+/// A floor that was opened.
+#[derive(Drop)]
+pub enum Floor {
+    Filed(FiledPlan),
+    Grid(GridPlan),
+}
 
-/// Prints the floor and, where passages are shut, what changes.
-pub fn describe(rt: &LibcRuntime, options: Options) -> Result<(), Problem> {
-    let Options { source, shut } = options;
+/// Opens the floor.
+pub fn open_floor(rt: &LibcRuntime, source: Source) -> Result<Floor, Problem> {
     match source {
-        Source::Unnamed => Err(Problem::Usage(SOURCE)),
-        Source::Grid(rows, columns) => describe_plan(rt, GridPlan::new(rows, columns)?, shut),
+        Source::Grid(rows, columns) => Ok(Floor::Grid(GridPlan::new(rows, columns)?)),
         Source::File(path) => {
             let bytes = match fs::read(rt, path.as_str()) {
                 Ok(bytes) => bytes,
                 Err(error) => return Err(Problem::Unreadable(path, error)),
             };
-            describe_plan(rt, FiledPlan::open(bytes.as_slice())?, shut)
+            Ok(Floor::Filed(FiledPlan::open(bytes.as_slice())?))
         }
+    }
+}
+
+/// Prints the floor and, where passages are shut, what changes.
+pub fn describe(rt: &LibcRuntime, options: Options) -> Result<(), Problem> {
+    let mut options = options;
+    let source = options.source()?;
+    match open_floor(rt, source)? {
+        Floor::Filed(plan) => describe_plan(rt, plan, options.shut),
+        Floor::Grid(plan) => describe_plan(rt, plan, options.shut),
     }
 }
 

@@ -49,6 +49,13 @@ impl<P: Plan, R: Rule> Enquiry<P, R> {
         }
     }
 
+    /// The plan that the enquiry holds.
+    pub fn plan(&self) -> &P
+        ensures { λ r. ⌜ now r ≡ now (self .entry) .search .plan ⌝ }
+    {
+        &self.search.plan
+    }
+
     /// Poses a question, and stands before its first answer.
     pub fn pose(&mut self, start: u8, target: u8, choice: Choice) -> Result<(), Fault>
         ensures relation { λ r. ⌜ Promise (P·Plan .meaning (now (self .entry) .search .plan)) (R·Rule .meaning (now (self .entry) .search .rule)) (now (self .entry) .search .automaton) (now (self .entry) .search .cursor) (now (self .exit) .search .cursor) (λ n s u. Pose n s start target choice r u) ⌝ }
