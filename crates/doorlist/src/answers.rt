@@ -20,7 +20,7 @@ pub struct Tally {
 }
 
 /// Writes the answers to the question, at most so many.
-pub fn list<P: Plan + Drop, R: Rule + Drop>(
+pub(crate) fn list<P: Plan + Drop, R: Rule + Drop>(
     rt: &LibcRuntime,
     plan: P,
     rule: R,
@@ -75,7 +75,7 @@ fn show_answer<P: Plan>(
 }
 
 /// Says on standard error what a listing came to.
-pub fn report(rt: &LibcRuntime, tally: Tally) -> Result<(), Problem> {
+pub(crate) fn report(rt: &LibcRuntime, tally: Tally) -> Result<(), Problem> {
     let answers = tally.answers;
     let noun = if answers == 1 { "answer" } else { "answers" };
     if tally.ended {
@@ -87,7 +87,7 @@ pub fn report(rt: &LibcRuntime, tally: Tally) -> Result<(), Problem> {
 }
 
 /// Whether the record is one of an answer to the question.
-pub fn check<P: Plan + Drop, R: Rule + Drop>(
+pub(crate) fn check<P: Plan + Drop, R: Rule + Drop>(
     plan: P,
     rule: R,
     text: &str,

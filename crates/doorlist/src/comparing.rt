@@ -44,7 +44,7 @@ struct Posed<P: Plan, R: Rule> {
 }
 
 /// Says whether the two questions have the same answers.
-pub fn compare(rt: &LibcRuntime, left: Options, right: Options) -> Result<(), Problem> {
+pub(crate) fn compare(rt: &LibcRuntime, left: Options, right: Options) -> Result<(), Problem> {
     let left = read_side(rt, left)?;
     let right = read_side(rt, right)?;
     let verdict = if same_answers(left, right)? {
@@ -74,7 +74,7 @@ fn read_side(rt: &LibcRuntime, options: Options) -> Result<Side, Problem> {
 }
 
 /// Whether the listings of the two are equal.
-pub fn same_answers(left: Side, right: Side) -> Result<bool, Fault> {
+pub(crate) fn same_answers(left: Side, right: Side) -> Result<bool, Fault> {
     let Side {
         floor,
         sheet,

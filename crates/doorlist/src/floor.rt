@@ -25,7 +25,7 @@ pub enum Floor {
 }
 
 /// Opens the floor.
-pub fn open_floor(rt: &LibcRuntime, source: Source) -> Result<Floor, Problem> {
+pub(crate) fn open_floor(rt: &LibcRuntime, source: Source) -> Result<Floor, Problem> {
     match source {
         Source::Grid(rows, columns) => Ok(Floor::Grid(GridPlan::new(rows, columns)?)),
         Source::File(path) => {
@@ -39,7 +39,7 @@ pub fn open_floor(rt: &LibcRuntime, source: Source) -> Result<Floor, Problem> {
 }
 
 /// Prints the floor and, where passages are shut, what changes.
-pub fn describe(rt: &LibcRuntime, options: Options) -> Result<(), Problem> {
+pub(crate) fn describe(rt: &LibcRuntime, options: Options) -> Result<(), Problem> {
     let mut options = options;
     let source = options.source()?;
     match open_floor(rt, source)? {
@@ -49,7 +49,7 @@ pub fn describe(rt: &LibcRuntime, options: Options) -> Result<(), Problem> {
 }
 
 /// Prints the plan, then the same with passages shut.
-pub fn describe_plan<P: Plan + Drop>(
+pub(crate) fn describe_plan<P: Plan + Drop>(
     rt: &LibcRuntime,
     plan: P,
     shut: Option<Sheet>,

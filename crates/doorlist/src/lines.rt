@@ -5,7 +5,7 @@ use std::alloc::AllocError;
 use std::alloc::Global;
 
 /// The words of a record in decimal, with one space between.
-pub fn record_line(heap: Global, record: &[u16]) -> Result<String, AllocError> {
+pub(crate) fn record_line(heap: Global, record: &[u16]) -> Result<String, AllocError> {
     let mut line = String::new(heap);
     for word in record {
         if !line.is_empty() {
@@ -18,7 +18,11 @@ pub fn record_line(heap: Global, record: &[u16]) -> Result<String, AllocError> {
 }
 
 /// The answer of a record: zones, the doors between them with their kinds, and the lists that are not empty.
-pub fn answer_line<P: Plan>(heap: Global, plan: &P, record: &[u16]) -> Result<String, AllocError> {
+pub(crate) fn answer_line<P: Plan>(
+    heap: Global,
+    plan: &P,
+    record: &[u16],
+) -> Result<String, AllocError> {
     let [_, start, steps @ ..] = record else {
         return Ok(String::new(heap));
     };

@@ -79,7 +79,7 @@ const GRID: &str = "--grid takes rows and columns, as 2x3";
 const SHUT: &str = "--shut takes passage numbers from 0 to 255, as 5,7";
 
 impl Command {
-    pub fn usage(self) -> &'static str {
+    pub(crate) fn usage(self) -> &'static str {
         match self {
             Command::Plan => "doorlist plan (FILE | --grid RxC) [--shut N,N..]",
             Command::List =>
@@ -139,7 +139,11 @@ impl Name {
 
 impl Options {
     /// Reads the words behind the command.
-    pub fn read(heap: Global, command: Command, words: Vec<String>) -> Result<Options, Problem> {
+    pub(crate) fn read(
+        heap: Global,
+        command: Command,
+        words: Vec<String>,
+    ) -> Result<Options, Problem> {
         let mut options = Options {
             command,
             grid: None,
@@ -226,7 +230,7 @@ impl Options {
     }
 
     /// Takes the last word that no option explains.
-    pub fn last_word(&mut self) -> Result<String, Problem> {
+    pub(crate) fn last_word(&mut self) -> Result<String, Problem> {
         match self.words.pop() {
             Some(word) => Ok(word),
             None => Err(self.misused()),
@@ -234,7 +238,7 @@ impl Options {
     }
 
     /// Takes the floor: the grid, or else the one word that is left.
-    pub fn source(&mut self) -> Result<Source, Problem> {
+    pub(crate) fn source(&mut self) -> Result<Source, Problem> {
         let source = match self.grid {
             Some((rows, columns)) => Source::Grid(rows, columns),
             None => Source::File(self.last_word()?),
@@ -245,14 +249,14 @@ impl Options {
         Ok(source)
     }
 
-    pub fn rule(&self) -> Result<Restrictor, Problem> {
+    pub(crate) fn rule(&self) -> Result<Restrictor, Problem> {
         match self.rule {
             Some(rule) => Ok(rule),
             None => Err(self.misused()),
         }
     }
 
-    pub fn ends(&self) -> Result<Ends, Problem> {
+    pub(crate) fn ends(&self) -> Result<Ends, Problem> {
         let choice = self.choice;
         match (self.start, self.target) {
             (Some(start), Some(target)) => Ok(Ends {

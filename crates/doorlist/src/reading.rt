@@ -6,7 +6,7 @@ use outline::outline;
 use pattern::Pattern;
 
 /// Shows how the pattern is read, or points at the place of its first fault.
-pub fn describe_pattern(rt: &LibcRuntime, text: &str) -> Result<(), Problem> {
+pub(crate) fn describe_pattern(rt: &LibcRuntime, text: &str) -> Result<(), Problem> {
     match Pattern::read(text.as_bytes()) {
         Ok(_) => {
             let reading = outline(rt.alloc(), text.as_bytes())?;

@@ -13,7 +13,7 @@ use std::alloc::AllocError;
 use std::alloc::Global;
 
 /// The calls of a script.
-pub fn read_script(heap: Global, text: &str) -> Result<Vec<Call>, Problem> {
+pub(crate) fn read_script(heap: Global, text: &str) -> Result<Vec<Call>, Problem> {
     let mut calls = Vec::new(heap);
     let mut number = 0usize;
     for line in text.lines() {
@@ -78,7 +78,7 @@ fn read_next(heap: Global, rest: &str) -> Result<Option<Call>, AllocError> {
 }
 
 /// Words in decimal with spaces between, if the text is that.
-pub fn read_words(heap: Global, text: &str) -> Result<Option<Vec<u16>>, AllocError> {
+pub(crate) fn read_words(heap: Global, text: &str) -> Result<Option<Vec<u16>>, AllocError> {
     let mut words = Vec::new(heap);
     for part in text.split_whitespace() {
         let Ok(word) = part.parse::<u16>() else {
@@ -90,7 +90,7 @@ pub fn read_words(heap: Global, text: &str) -> Result<Option<Vec<u16>>, AllocErr
 }
 
 /// Prints one reply.
-pub fn show_reply(rt: &LibcRuntime, reply: Reply) -> Result<(), Problem> {
+pub(crate) fn show_reply(rt: &LibcRuntime, reply: Reply) -> Result<(), Problem> {
     match reply {
         Reply::Pose(outcome) => show_done(rt, outcome, "posed"),
         Reply::Next(outcome, buffer) => show_delivery(rt, outcome, buffer.as_slice()),

@@ -3,7 +3,7 @@ ghost use Prim.Native.Nat.{ℕ};
 use plan::Plan;
 use std::io;
 
-pub fn kind_name(kind: u8) -> &'static str {
+pub(crate) fn kind_name(kind: u8) -> &'static str {
     match kind {
         0 => "free",
         1 => "badge",
@@ -17,7 +17,7 @@ pub fn kind_name(kind: u8) -> &'static str {
 }
 
 /// Each zone with the passages that leave it, in the order of their numbers.
-pub fn show_plan<P: Plan>(rt: &LibcRuntime, plan: &P) -> io::Result<()> {
+pub(crate) fn show_plan<P: Plan>(rt: &LibcRuntime, plan: &P) -> io::Result<()> {
     for zone in 0..plan.zones() {
         println!(rt, "zone {zone}")?;
         show_leaving(rt, plan, zone)?;
@@ -43,7 +43,11 @@ fn show_passage<P: Plan>(rt: &LibcRuntime, plan: &P, number: u8) -> io::Result<(
 }
 
 /// The passages of the plan below that the plan above has no more; how many there are.
-pub fn show_missing<P: Plan, Q: Plan>(rt: &LibcRuntime, below: &P, above: &Q) -> io::Result<usize> {
+pub(crate) fn show_missing<P: Plan, Q: Plan>(
+    rt: &LibcRuntime,
+    below: &P,
+    above: &Q,
+) -> io::Result<usize> {
     let mut missing = 0usize;
     for number in 0..=255u8 {
         if let Some((origin, destination, kind)) = below.passage(number as usize) {
@@ -58,7 +62,7 @@ pub fn show_missing<P: Plan, Q: Plan>(rt: &LibcRuntime, below: &P, above: &Q) ->
 }
 
 /// How many passages the plan has.
-pub fn count_passages<P: Plan>(plan: &P) -> usize {
+pub(crate) fn count_passages<P: Plan>(plan: &P) -> usize {
     let mut count = 0usize;
     for number in 0..256usize {
         if plan.passage(number).is_some() {

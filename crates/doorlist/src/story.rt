@@ -60,7 +60,7 @@ const PAIR: [u8; 13] = [2, 2, 0, 0, 0, 1, 0, 0, 1, 0, 6, 0, 0];
 const TEXT: &str = "badge^A free? pin^B";
 
 /// Prints a floor, a pattern, its routes over the floor, what a shut door changes, and two floors side by side.
-pub fn tell(rt: &LibcRuntime) -> Result<(), Problem> {
+pub(crate) fn tell(rt: &LibcRuntime) -> Result<(), Problem> {
     println!(rt, "The built-in floor:")?;
     describe_plan(rt, FiledPlan::open(&FLOOR)?, None)?;
     println!(rt, "The pattern {TEXT}:")?;

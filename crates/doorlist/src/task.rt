@@ -66,7 +66,11 @@ fn read_task(rt: &LibcRuntime, command: Command, options: &mut Options) -> Resul
 }
 
 /// Does what the command asks of the floor that the options name.
-pub fn carry_out(rt: &LibcRuntime, command: Command, options: Options) -> Result<(), Problem> {
+pub(crate) fn carry_out(
+    rt: &LibcRuntime,
+    command: Command,
+    options: Options,
+) -> Result<(), Problem> {
     let mut options = options;
     let rule = options.rule()?;
     let task = read_task(rt, command, &mut options)?;

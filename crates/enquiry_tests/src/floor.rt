@@ -44,7 +44,7 @@ pub const SECOND: [u16; 11] = [3, 0, 0, 1, 1, 4, 2, 0, 3, 3, 2];
 pub const THIRD: [u16; 8] = [2, 0, 1, 2, 1, 3, 3, 2];
 
 /// A new enquiry on the floor.
-pub fn fresh(text: &[u8]) -> Result<Enquiry<FiledPlan, Trail>, Fail> {
+pub(crate) fn fresh(text: &[u8]) -> Result<Enquiry<FiledPlan, Trail>, Fail> {
     let Ok(plan) = FiledPlan::open(&FLOOR) else {
         return Err(Fail::new("the floor is refused"));
     };
@@ -55,14 +55,14 @@ pub fn fresh(text: &[u8]) -> Result<Enquiry<FiledPlan, Trail>, Fail> {
 }
 
 /// The same with the question from 0 to 3 posed.
-pub fn asked(choice: Choice) -> Result<Enquiry<FiledPlan, Trail>, Fail> {
+pub(crate) fn asked(choice: Choice) -> Result<Enquiry<FiledPlan, Trail>, Fail> {
     let mut enquiry = fresh(b"badge^A free? pin^B")?;
     check(enquiry.pose(0, 3, choice).is_ok())?;
     Ok(enquiry)
 }
 
 /// Whether next delivers just this record; with no words, whether it says none left.
-pub fn delivers(enquiry: &mut Enquiry<FiledPlan, Trail>, record: &[u16]) -> bool {
+pub(crate) fn delivers(enquiry: &mut Enquiry<FiledPlan, Trail>, record: &[u16]) -> bool {
     let mut buffer = [9u16; 770];
     match enquiry.next(&mut buffer) {
         Ok(Some(count)) => count == record.len() && count <= 770 && &buffer[0..count] == record,
