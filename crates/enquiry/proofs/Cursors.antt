@@ -31,12 +31,6 @@ use Rattle.enquiry.specs.Records.{record_on}
 use Rattle.enquiry.specs.Promises.{asked, question_of, standing_of, state_by, state_of, Capped, KeptPosed, Kept, Promise, Least}
 use Rattle.enquiry.proofs.Deliveries.{first_one, record_words, record_length, final_of}
 use Rattle.enquiry.proofs.Deliveries as v
-use Rattle.chart.specs.Charts.{Charts}
-use Rattle.chart.specs.declared.Chart.{Chart}
-use Rattle.search.specs.Desks.{Served}
-use Rattle.search.specs.Places.{Desked}
-use Rattle.search.specs.declared.desk.Desk.{Desk}
-use Rattle.route.specs.declared.Route.{Route}
 
 pub unposed_at : (d : Cursor) → d.posed ≡ false → state_of d ≡ unposed
 unposed_at d e = ap (λ (b : Bool). state_by b (question_of d) (standing_of d.begun (track_of d.route))) e
@@ -63,40 +57,24 @@ cap_same n d e s c =
 front_state : (d : Cursor) (q : Question) → d.posed ≡ true → d.begun ≡ false → question_of d ≡ q → state_of d ≡ posed q at_front
 front_state d q p b e = λ i. state_by (p i) (e i) (standing_of (b i) (track_of d.route))
 
--- a desk that is not ready serves every route that stands in the space
-pub serves_anew : (pl : PlanMeaning) (ru : RuleMeaning) (a : Automaton) (target most : ℕ) (d : Desk) (r : Route) → Charts pl a target d.chart → target < pl.zones → r.start < pl.zones → li.Standing (space_of pl ru a target most) (track_of r) → d.ready ≡ false → Served pl ru a target most d r
-serves_anew pl ru a target most d r c t l s e = record { charted = c; ends = t; starts = l; stands = s; laid = λ h. absurd (clash (sym e ∙ h)) }
-
-pub stands_first : (t : tr.Space) (r : Route) → r.len ≡ 0 → li.Standing t (track_of r)
-stands_first t r l = subst (StandingOn t r.start) (sym (taken_none (taken_at r) r.len l)) tt
-
-kept_front : (n : EnquiryMeaning) (a : Automaton) (d : Cursor) → d.begun ≡ false → d.route.len ≡ 0 → d.route.start < n.plan.zones → Capped n (question_of d) d.choice d.most → Desked n.plan n.rule a d → KeptPosed n a d
-kept_front n a d b l low longest desk = record {
+kept_front : (n : EnquiryMeaning) (a : Automaton) (d : Cursor) → d.begun ≡ false → d.route.len ≡ 0 → d.route.start < n.plan.zones → Capped n (question_of d) d.choice d.most → KeptPosed n a d
+kept_front n a d b l low longest = record {
   start = low;
   longest = longest;
-  stands = stands_first (space_of n.plan n.rule a d.target d.most) d.route l;
+  stands = subst (StandingOn (space_of n.plan n.rule a d.target d.most) d.route.start) (sym (taken_none (taken_at d.route) d.route.len l)) tt;
   answer = λ e. absurd (clash (sym b ∙ e));
-  desk = desk;
 }
-
--- the desk of another route to the same question, with the same chart, which is not ready
-pub desked_anew : (pl : PlanMeaning) (ru : RuleMeaning) (a : Automaton) (d e : Cursor) → SameQuestion d e → e.desk.chart ≡ d.desk.chart → e.desk.ready ≡ false → li.Standing (space_of pl ru a e.target e.most) (track_of e.route) → Desked pl ru a d → Desked pl ru a e
-desked_anew pl ru a d e s c r st k =
-    let P : ℕ → Chart → Type 0 = λ t x. Charts pl a t x in
-    serves_anew pl ru a e.target e.most e.desk e.route
-    (subst (λ (t : ℕ). P t e.desk.chart) (sym s.target) (subst (λ (x : Chart). P d.target x) (sym c) k.charted))
-    (subst (λ (t : ℕ). t < pl.zones) (sym s.target) k.ends) (subst (λ (z : ℕ). z < pl.zones) (sym s.start) k.starts) st r
 
 module _ (pl : PlanMeaning) (ru : RuleMeaning) (laws : KeepsLaws ru) (a : Automaton) (d : Cursor) where
   pub again_refused : d.posed ≡ false → Promise pl ru a d d (λ n s u. Again n s (Err (Enquiry (Unposed 0))) u)
   again_refused e t rec k = (subst (λ (s : State). Again (asked pl ru t) s (Err (Enquiry (Unposed 0))) s) (sym (unposed_at d e)) again_unposed, k)
 
-  pub again_accepted : (e : Cursor) → d.posed ≡ true → e.posed ≡ true → e.begun ≡ false → e.route.len ≡ 0 → SameQuestion d e → e.desk.chart ≡ d.desk.chart → e.desk.ready ≡ false → Promise pl ru a d e (λ n s u. Again n s (Ok tt) u)
-  again_accepted e p r b l s dc dr t rec k =
+  pub again_accepted : (e : Cursor) → d.posed ≡ true → e.posed ≡ true → e.begun ≡ false → e.route.len ≡ 0 → SameQuestion d e → Promise pl ru a d e (λ n s u. Again n s (Ok tt) u)
+  again_accepted e p r b l s t rec k =
       let n = asked pl ru t in
       let h = k p in (
         subst (λ (u : State). Again n u (Ok tt) (state_of e)) (sym (posed_at d p)) (subst (λ (u : State). Again n (posed (question_of d) (standing_of d.begun (track_of d.route))) (Ok tt) u) (sym (front_state e (question_of d) r b (question_same d e s))) goes_back),
-        λ _. kept_front n a e b l (subst (λ (z : ℕ). z < pl.zones) (sym s.start) h.start) (cap_same n d e s h.longest) (desked_anew pl ru a d e s dc dr (stands_first (space_of pl ru a e.target e.most) e.route l) h.desk),
+        λ _. kept_front n a e b l (subst (λ (z : ℕ). z < pl.zones) (sym s.start) h.start) (cap_same n d e s h.longest),
       )
 
   pub pose_start : (start target : ℕ) (choice : Choice) → pl.zones ≤ start → Promise pl ru a d d (λ n s u. Pose n s start target choice (Err (Enquiry (Start start))) u)
@@ -105,15 +83,15 @@ module _ (pl : PlanMeaning) (ru : RuleMeaning) (laws : KeepsLaws ru) (a : Automa
   pub pose_target : (start target : ℕ) (choice : Choice) → start < pl.zones → pl.zones ≤ target → Promise pl ru a d d (λ n s u. Pose n s start target choice (Err (Enquiry (Target target))) u)
   pose_target start target choice g h t rec k = (no_target g h, k)
 
-  pub pose_accepted : (start target : ℕ) (choice : Choice) (e : Cursor) → start < pl.zones → target < pl.zones → e.posed ≡ true → e.begun ≡ false → e.route.len ≡ 0 → e.route.start ≡ start → e.target ≡ target → e.choice ≡ choice → Desked pl ru a e →
+  pub pose_accepted : (start target : ℕ) (choice : Choice) (e : Cursor) → start < pl.zones → target < pl.zones → e.posed ≡ true → e.begun ≡ false → e.route.len ≡ 0 → e.route.start ≡ start → e.target ≡ target → e.choice ≡ choice →
       ((t : Tree) → Recognises a t → Capped (asked pl ru t) (record { start = start; target = target; choice = choice }) choice e.most) →
       Promise pl ru a d e (λ n s u. Pose n s start target choice (Ok tt) u)
-  pose_accepted start target choice e g h p b l st tg ch desk most t rec k =
+  pose_accepted start target choice e g h p b l st tg ch most t rec k =
       let n = asked pl ru t in
       let q : question_of e ≡ record { start = start; target = target; choice = choice } = λ i. record { start = st i; target = tg i; choice = ch i } in
       let c₁ = subst (λ (x : Question). Capped n x choice e.most) (sym q) (most t rec) in (
         subst (λ (u : State). Pose n (state_of d) start target choice (Ok tt) u) (sym (front_state e _ p b q)) (poses g h),
-        λ _. kept_front n a e b l (subst (λ (z : ℕ). z < pl.zones) (sym st) g) (subst (λ (x : Choice). Capped n (question_of e) x e.most) (sym ch) c₁) desk,
+        λ _. kept_front n a e b l (subst (λ (z : ℕ). z < pl.zones) (sym st) g) (subst (λ (x : Choice). Capped n (question_of e) x e.most) (sym ch) c₁),
       )
 
   pub next_refused : (buf : List ℕ) → d.posed ≡ false → Promise pl ru a d d (λ n s u. Next n s buf (Err (Enquiry (Unposed 0))) buf u)
@@ -122,41 +100,20 @@ module _ (pl : PlanMeaning) (ru : RuleMeaning) (laws : KeepsLaws ru) (a : Automa
   pub next_room : (buf : List ℕ) → d.posed ≡ true → length buf < 770 → Promise pl ru a d d (λ n s u. Next n s buf (Err (Enquiry (Buffer (length buf)))) buf u)
   next_room buf e l t rec k = (subst (λ (s : State). Next (asked pl ru t) s buf (Err (Enquiry (Buffer (length buf)))) buf s) (sym (posed_at d e)) (no_room l), k)
 
-  pub next_none : (buf : List ℕ) (e : Cursor) → d.posed ≡ true → 770 ≤ length buf → e.posed ≡ d.posed → e.choice ≡ d.choice → e.target ≡ d.target → e.most ≡ d.most → e.route ≡ d.route → e.begun ≡ d.begun →
-      (Desked pl ru a d → Delivered (space_of pl ru a d.target d.most) d.begun (track_of d.route) false (track_of e.route) × Desked pl ru a e) →
+  pub next_none : (buf : List ℕ) (e : Cursor) → d.posed ≡ true → 770 ≤ length buf → e ≡ d →
+      (li.Standing (space_of pl ru a d.target d.most) (track_of d.route) → Delivered (space_of pl ru a d.target d.most) d.begun (track_of d.route) false (track_of e.route)) →
       Promise pl ru a d e (λ n s u. Next n s buf (Ok None) buf u)
   unfolding Delivered
-  next_none buf e p l ep ec et em er eb h t rec k = (relation, λ _. kept)
-    where
-      kp : KeptPosed (asked pl ru t) a d
-      kp = k p
-
-      w : Delivered (space_of pl ru a d.target d.most) d.begun (track_of d.route) false (track_of e.route) × Desked pl ru a e
-      w = h kp.desk
-
-      same : SameQuestion d e
-      same = record { start = ap (λ (r : Route). r.start) er; target = et; choice = ec; most = em }
-
-      state_is : state_of e ≡ state_of d
-      state_is = λ i. state_by (ep i) (question_same d e same i) (standing_of (eb i) (track_of (er i)))
-
-      relation : Next (asked pl ru t) (state_of d) buf (Ok None) buf (state_of e)
-      relation =
-          let no = v.none_left (asked pl ru t) laws a rec d.route.start d.target d.choice d.most kp.start kp.longest d.begun (taken_of (taken_at d.route) d.route.len) kp.stands kp.answer w.0 in
-          subst (λ (s : State). Next (asked pl ru t) (state_of d) buf (Ok None) buf s) (sym state_is) (subst (λ (s : State). Next (asked pl ru t) s buf (Ok None) buf s) (sym (posed_at d p)) (none_left l no))
-
-      kept : KeptPosed (asked pl ru t) a e
-      kept = record {
-        start = w.1.starts;
-        longest = cap_same (asked pl ru t) d e same kp.longest;
-        stands = w.1.stands;
-        answer = λ b. (λ i. (space_of pl ru a (et i) (em i)).final (track_of (er i))) ∙ kp.answer (sym eb ∙ b);
-        desk = w.1;
-      }
+  next_none buf e p l q h t rec k =
+      let n = asked pl ru t in
+      let kp = k p in
+      let no = v.none_left n laws a rec d.route.start d.target d.choice d.most kp.start kp.longest d.begun (taken_of (taken_at d.route) d.route.len) kp.stands kp.answer (h kp.stands) in
+      let P : Cursor → Type 0 = λ x. Next n (state_of d) buf (Ok None) buf (state_of x) × Kept n a x in
+      subst P (sym q) (subst (λ (s : State). Next n s buf (Ok None) buf s) (sym (posed_at d p)) (none_left l no), k)
 
   pub next_some : (buf buf' : List ℕ) (count : ℕ) (e : Cursor) → d.posed ≡ true → 770 ≤ length buf → e.posed ≡ true → e.begun ≡ true → e.target ≡ d.target → e.choice ≡ d.choice → e.most ≡ d.most →
       count ≡ 2 + 3 * e.route.len → buf' ≡ record_on (track_of e.route) (drop count buf) →
-      (Desked pl ru a d → Delivered (space_of pl ru a d.target d.most) d.begun (track_of d.route) true (track_of e.route) × Desked pl ru a e) →
+      (li.Standing (space_of pl ru a d.target d.most) (track_of d.route) → Delivered (space_of pl ru a d.target d.most) d.begun (track_of d.route) true (track_of e.route)) →
       Promise pl ru a d e (λ n s u. Next n s buf (Ok (Some count)) buf' u)
   unfolding Delivered
   next_some buf buf' count e p l ep eb et ec em ct bf h t rec k = (relation, λ _. kept)
@@ -165,7 +122,7 @@ module _ (pl : PlanMeaning) (ru : RuleMeaning) (laws : KeepsLaws ru) (a : Automa
       kp = k p
 
       w : Delivers (space_of pl ru a d.target d.most) d.route.start d.begun (codes_of (track_of d.route)) (track_of e.route)
-      w = (h kp.desk).0
+      w = h kp.stands
 
       same : SameQuestion d e
       same = record { start = w.starts; target = et; choice = ec; most = em }
@@ -208,7 +165,6 @@ module _ (pl : PlanMeaning) (ru : RuleMeaning) (laws : KeepsLaws ru) (a : Automa
         longest = cap_same (asked pl ru t) d e same kp.longest;
         stands = subst (λ (x : tr.Space). li.Standing x (track_of e.route)) tree_is w.stands;
         answer = λ _. subst (λ (x : tr.Space). x.final (track_of e.route) ≡ true) tree_is (subst (λ (r : Track). (space_of pl ru a d.target d.most).final r ≡ true) (sym route_is) final);
-        desk = (h kp.desk).1;
       }
 
 pub cap_all : (pl : PlanMeaning) (ru : RuleMeaning) (a : Automaton) (z target most : ℕ) (ch : Choice) → ch ≡ All → most ≡ limit ru →
@@ -224,8 +180,10 @@ come_later : (b : Bool) (u w : List tr.Code) → li.ToCome b u w → b ≡ true 
 come_later true u w h e = h
 come_later false u w h e = absurd (clash e)
 
-pub leads_on : (pl : PlanMeaning) (ru : RuleMeaning) (a : Automaton) (d e : Cursor) → e.begun ≡ true →
-    (Desked pl ru a d → Delivered (space_of pl ru a d.target d.most) d.begun (track_of d.route) true (track_of e.route) × Desked pl ru a e) →
-    Desked pl ru a d → Desked pl ru a e × (e.begun ≡ true) × (d.begun ≡ true → tr.Earlier (codes_of (track_of d.route)) (codes_of (track_of e.route)))
+pub leads_on : (pl : PlanMeaning) (ru : RuleMeaning) (a : Automaton) (d e : Cursor) → e.begun ≡ true → e.target ≡ d.target → e.most ≡ d.most →
+    (li.Standing (space_of pl ru a d.target d.most) (track_of d.route) → Delivered (space_of pl ru a d.target d.most) d.begun (track_of d.route) true (track_of e.route)) →
+    li.Standing (space_of pl ru a d.target d.most) (track_of d.route) → li.Standing (space_of pl ru a e.target e.most) (track_of e.route) × (e.begun ≡ true) × (d.begun ≡ true → tr.Earlier (codes_of (track_of d.route)) (codes_of (track_of e.route)))
 unfolding Delivered
-leads_on pl ru a d e b h s = let w = h s in (w.1, b, come_later d.begun (codes_of (track_of d.route)) (codes_of (track_of e.route)) w.0.later)
+leads_on pl ru a d e b t m h s =
+    let w = h s in
+    (subst (λ (x : tr.Space). li.Standing x (track_of e.route)) (λ i. space_of pl ru a (sym t i) (sym m i)) w.stands, b, come_later d.begun (codes_of (track_of d.route)) (codes_of (track_of e.route)) w.later)

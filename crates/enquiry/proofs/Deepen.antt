@@ -24,10 +24,6 @@ use Rattle.search.specs.Hunts.{space_of}
 use Rattle.bridge.proofs.Agreed.{short}
 use Rattle.enquiry.specs.Promises.{asked, Least}
 use Rattle.enquiry.proofs.Deliveries as v
-use Rattle.enquiry.proofs.Cursors.{serves_anew, stands_first}
-use Rattle.chart.specs.Charts.{Charts}
-use Rattle.search.specs.Desks.{Served}
-use Rattle.search.specs.declared.desk.Desk.{Desk}
 
 abbrev pub Ask : ℕ → ℕ → Question
 Ask z target = record { start = z; target = target; choice = Shortest }
@@ -43,35 +39,30 @@ module _ (pl : PlanMeaning) (ru : RuleMeaning) (laws : KeepsLaws ru) (a : Automa
   abbrev T : tr.Space
   T = space_of pl ru a target most
 
-  told_at : (r : Route) (b : Bool) (e : Track) → r.start ≡ z → r.len ≡ 0 → Delivered T false (track_of r) b e → Delivered T false (route_at z []) b e
-  told_at r b e s l h = subst (λ (x : Track). Delivered T false x b e) (fresh r z s l) h
+  told_at : (r : Route) (b : Bool) (e : Track) → r.start ≡ z → r.len ≡ 0 → (li.Standing T (track_of r) → Delivered T false (track_of r) b e) → Delivered T false (route_at z []) b e
+  told_at r b e s l h = subst (λ (x : Track). li.Standing T x → Delivered T false x b e) (fresh r z s l) h tt
 
-  pub found : (r : Route) (e : Track) → r.start ≡ z → r.len ≡ 0 → (z < pl.zones → Delivered T false (track_of r) true e) → Under pl ru a z target most →
+  pub found : (r : Route) (e : Track) → r.start ≡ z → r.len ≡ 0 → (li.Standing T (track_of r) → Delivered T false (track_of r) true e) → Under pl ru a z target most →
       (t : Tree) → Recognises a t → z < pl.zones → Least (asked pl ru t) z target most
   unfolding Delivered
   found r e s l h u t rec low =
-      let d = told_at r true e s l (h low) in
+      let d = told_at r true e s l h in
       let st : StandingOn T z e.steps = subst (λ (y : ℕ). StandingOn T y e.steps) d.starts d.stands in
       let f = answer_to T z e.steps [] st d.answer in (
         u t rec low,
         λ b k. (told (route_at z e.steps), v.candidate (asked pl ru t) laws a rec z target Shortest most low e.steps st f, v.kept_len (asked pl ru t) laws a rec z target Shortest most low e.steps st),
       )
 
-  pub none : (r : Route) (e : Track) → r.start ≡ z → r.len ≡ 0 → (z < pl.zones → Delivered T false (track_of r) false e) → Under pl ru a z target most → Under pl ru a z target (most + 1)
+  pub none : (r : Route) (e : Track) → r.start ≡ z → r.len ≡ 0 → (li.Standing T (track_of r) → Delivered T false (track_of r) false e) → Under pl ru a z target most → Under pl ru a z target (most + 1)
   unfolding Delivered
   none r e s l h u t rec low b k = elim (dec_lt most (len b.route)) [
     | yes x ↦ omega arith
-    | no x ↦ absurd (told_at r false e s l (h low) (line_codes (record_of b).lines) (v.search_answer (asked pl ru t) laws a rec z target Shortest most low b k (omega arith)) tt)
+    | no x ↦ absurd (told_at r false e s l h (line_codes (record_of b).lines) (v.search_answer (asked pl ru t) laws a rec z target Shortest most low b k (omega arith)) tt)
   ]
 
   pub all_tried : most ≡ limit ru → Under pl ru a z target most → (t : Tree) → Recognises a t → z < pl.zones → Least (asked pl ru t) z target most
   all_tried e u t rec low = (u t rec low, λ b k. (b, k, omega (arith, short (asked pl ru t) laws (Ask z target) b k)))
 
--- what a search from the start delivered, of the plan, the rule and the automaton that it began with
-pub told_same : {pl pl' : PlanMeaning} {ru ru' : RuleMeaning} {a a' : Automaton} {X : Type 0} (target most : ℕ) (d : Desk) (r : Route) (b : Bool) (e : Track) → pl' ≡ pl → ru' ≡ ru → a' ≡ a →
-    (Served pl' ru' a' target most d r → Delivered (space_of pl' ru' a' target most) false (track_of r) b e × X) → Charts pl a target d.chart → target < pl.zones → d.ready ≡ false → r.len ≡ 0 → r.start < pl.zones →
-    Delivered (space_of pl ru a target most) false (track_of r) b e
-told_same {pl} {pl'} {ru} {ru'} {a} {a'} target most d r b e p q s h c t dr l low =
-    let k = serves_anew pl ru a target most d r c t low (stands_first (space_of pl ru a target most) r l) dr in
-    let k' : Served pl' ru' a' target most d r = subst (λ (x : Automaton). Served pl' ru' x target most d r) (sym s) (subst (λ (x : RuleMeaning). Served pl' x a target most d r) (sym q) (subst (λ (x : PlanMeaning). Served x ru a target most d r) (sym p) k)) in
-    subst (λ (x : tr.Space). Delivered x false (track_of r) b e) (λ i. space_of (p i) (q i) (s i) target most) (h k').0
+pub told_same : {pl pl' : PlanMeaning} {ru ru' : RuleMeaning} {a a' : Automaton} (target most : ℕ) (b : Bool) (x : Track) (r : Bool) (e : Track) → pl' ≡ pl → ru' ≡ ru → a' ≡ a →
+    (li.Standing (space_of pl' ru' a' target most) x → Delivered (space_of pl' ru' a' target most) b x r e) → li.Standing (space_of pl ru a target most) x → Delivered (space_of pl ru a target most) b x r e
+told_same target most b x r e p q s h = subst (λ (T : tr.Space). li.Standing T x → Delivered T b x r e) (λ i. space_of (p i) (q i) (s i) target most) h

@@ -27,7 +27,7 @@ use Rattle.enquiry.specs.Records.{record_on}
 use Rattle.enquiry.specs.Promises.{asked, question_of, standing_of, state_by, state_of, Capped, KeptPosed, Kept, Promise}
 use Rattle.enquiry.specs.Walks.{Walked, NotWalked}
 use Rattle.enquiry.proofs.Deliveries as v
-use Rattle.enquiry.proofs.Cursors.{unposed_at, posed_at, SameQuestion, question_same, cap_same, desked_anew}
+use Rattle.enquiry.proofs.Cursors.{unposed_at, posed_at, SameQuestion, question_same, cap_same}
 
 pub formed_two : (ws : List ℕ) → WellFormed ws → (2 + 3 * get_or ws 0 0 ≤ length ws) × (get_or ws 0 0 ≤ 256)
 formed_two ws w = go (dec_lt (length ws) 2) (dec_lt 256 (get_or ws 0 0)) (dec_lt (length ws) (2 + 3 * get_or ws 0 0))
@@ -87,8 +87,8 @@ module _ (pl : PlanMeaning) (ru : RuleMeaning) (laws : KeepsLaws ru) (a : Automa
   pub resume_none : d.posed ≡ true → WellFormed ws → NotWalked pl ru a d ws → Promise pl ru a d d (λ n s u. Resume n s ws (Err (Enquiry (NotAnswer 0))) u)
   resume_none e f w t rec k = (subst (λ (s : State). Resume (asked pl ru t) s ws (Err (Enquiry (NotAnswer 0))) s) (sym (posed_at d e)) (no_answer f (none t rec (k e) w)), k)
 
-  pub resume_some : (e : Cursor) → d.posed ≡ true → WellFormed ws → Walked pl ru a d ws e.route → e.posed ≡ true → e.begun ≡ true → e.target ≡ d.target → e.choice ≡ d.choice → e.most ≡ d.most → e.desk.chart ≡ d.desk.chart → e.desk.ready ≡ false → Promise pl ru a d e (λ n s u. Resume n s ws (Ok tt) u)
-  resume_some e p f w ep eb et ec em dc dr t rec k = (relation, λ _. kept)
+  pub resume_some : (e : Cursor) → d.posed ≡ true → WellFormed ws → Walked pl ru a d ws e.route → e.posed ≡ true → e.begun ≡ true → e.target ≡ d.target → e.choice ≡ d.choice → e.most ≡ d.most → Promise pl ru a d e (λ n s u. Resume n s ws (Ok tt) u)
+  resume_some e p f w ep eb et ec em t rec k = (relation, λ _. kept)
     where
       kp : KeptPosed (asked pl ru t) a d
       kp = k p
@@ -114,5 +114,4 @@ module _ (pl : PlanMeaning) (ru : RuleMeaning) (laws : KeepsLaws ru) (a : Automa
         longest = cap_same (asked pl ru t) d e same kp.longest;
         stands = subst (λ (x : tr.Space). li.Standing x (track_of e.route)) tree_is w.stands;
         answer = λ _. subst (λ (x : tr.Space). x.final (track_of e.route) ≡ true) tree_is w.final;
-        desk = desked_anew pl ru a d e same dc dr (subst (λ (x : tr.Space). li.Standing x (track_of e.route)) tree_is w.stands) kp.desk;
       }

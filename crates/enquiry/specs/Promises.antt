@@ -20,7 +20,6 @@ use Rattle.search.specs.declared.cursor.Cursor.{Cursor}
 use Rattle.search.specs.Hunts.{space_of}
 use Rattle.search.specs.Listings.{Standing, codes_of}
 use Rattle.search.specs.Spaces.{Earlier}
-use Rattle.search.specs.Places.{Desked}
 use Rattle.bridge.specs.Lines.{told}
 
 -- The enquiry of a plan, a rule and a tree.
@@ -55,13 +54,12 @@ abbrev pub Least : EnquiryMeaning → ℕ → ℕ → ℕ → Type 0
 Least n start target most = Capped n (record { start = start; target = target; choice = Shortest }) Shortest most
 
 -- What a cursor with a question keeps: its start is a zone, its greatest length is right, its route is one that the
--- search can have come to, and once begun that route is an answer; and its desk serves the plan and the question.
+-- search can have come to, and once begun that route is an answer.
 pub record KeptPosed (n : EnquiryMeaning) (a : Automaton) (d : Cursor) : Type 0 where
   pub start : d.route.start < n.plan.zones
   pub longest : Capped n (question_of d) d.choice d.most
   pub stands : Standing (space_of n.plan n.rule a d.target d.most) (track_of d.route)
   pub answer : d.begun ≡ true → (space_of n.plan n.rule a d.target d.most).final (track_of d.route) ≡ true
-  pub desk : Desked n.plan n.rule a d
 
 -- What an enquiry keeps. A new one does, since it has no question, and every call keeps it.
 abbrev pub Kept : EnquiryMeaning → Automaton → Cursor → Type 0
@@ -84,6 +82,6 @@ IfAccepted (Err f) P = Unit {0}
 
 -- A delivery leads on from where the search stood, whatever the pattern: so a listing comes to an end.
 abbrev pub Forward : PlanMeaning → RuleMeaning → Automaton → Cursor → Result (Option ℕ) Fault → Cursor → Type 0
-Forward pl ru a d (Ok (Some k)) e = Desked pl ru a d → Desked pl ru a e × (e.begun ≡ true) × (d.begun ≡ true → Earlier (codes_of (track_of d.route)) (codes_of (track_of e.route)))
+Forward pl ru a d (Ok (Some k)) e = Standing (space_of pl ru a d.target d.most) (track_of d.route) → Standing (space_of pl ru a e.target e.most) (track_of e.route) × (e.begun ≡ true) × (d.begun ≡ true → Earlier (codes_of (track_of d.route)) (codes_of (track_of e.route)))
 Forward pl ru a d (Ok None) e = Unit {0}
 Forward pl ru a d (Err f) e = Unit {0}

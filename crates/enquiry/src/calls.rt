@@ -3,17 +3,15 @@ ghost use Rattle.std.specs.Prelude.{◌≡◌, ℕ, ◌<◌, ◌≤◌, true, fa
 ghost use Rattle.model.specs.Patterns.{Tree};
 ghost use Rattle.model.specs.Calls.{Pose, Next, Again};
 ghost use Rattle.automaton.specs.Tables.{Recognises};
-ghost use Rattle.chart.specs.Charts.{Charts};
 ghost use Rattle.enquiry.specs.Promises.{asked, Kept, Promise, Least, IfRefused, IfAccepted, Forward};
 
 use crate::written::write_record;
-use chart::Chart;
 use fault::{EnquiryFault, Fault};
 use model::Choice;
 use pattern::Pattern;
 use plan::Plan;
 use route::{Route, Rule, length_limit};
-use search::{Cursor, Desk, Search};
+use search::{Cursor, Search};
 
 /// A plan, a pattern and a rule, with the question posed and where its listing stands.
 #[derive(Drop)]
@@ -35,7 +33,6 @@ impl<P: Plan, R: Rule> Enquiry<P, R> {
             most: 0,
             begun: false,
             route: Route::new(0),
-            desk: Desk::new(Chart::blank(), 0),
         };
         Enquiry {
             search: Search {
@@ -67,10 +64,9 @@ impl<P: Plan, R: Rule> Enquiry<P, R> {
         if target >= zones {
             return Err(Fault::Enquiry(EnquiryFault::Target(target as usize)));
         }
-        let chart = Chart::read(&self.search.plan, &self.search.automaton, target);
         let most = match choice {
             Choice::All => length_limit(&self.search.rule),
-            Choice::Shortest => self.least_length(chart, start, target),
+            Choice::Shortest => self.least_length(start, target),
         };
         self.search.cursor = Cursor {
             posed: true,
@@ -79,14 +75,13 @@ impl<P: Plan, R: Rule> Enquiry<P, R> {
             most,
             begun: false,
             route: Route::new(start),
-            desk: Desk::new(chart, start),
         };
         Ok(())
     }
 
     // The least length of an allowed output, by searches to growing lengths; the rule's limit where there is none.
-    fn least_length(&mut self, chart: Chart, start: u8, target: u8) -> usize
-        ensures least { Charts (P.Plan.meaning self.old.search.plan) self.old.search.automaton target chart → target < (P.Plan.meaning self.old.search.plan).zones → (t : Tree) → Recognises self.old.search.automaton t → start < (P.Plan.meaning self.old.search.plan).zones → Least (asked (P.Plan.meaning self.old.search.plan) (R.Rule.meaning self.old.search.rule) t) start target result }
+    fn least_length(&mut self, start: u8, target: u8) -> usize
+        ensures least { (t : Tree) → Recognises self.old.search.automaton t → start < (P.Plan.meaning self.old.search.plan).zones → Least (asked (P.Plan.meaning self.old.search.plan) (R.Rule.meaning self.old.search.rule) t) start target result }
         ensures short { result ≤ 256 }
         ensures same { (self.new.search.plan ≡ self.old.search.plan) × ((self.new.search.rule ≡ self.old.search.rule) × (self.new.search.automaton ≡ self.old.search.automaton)) }
     {
@@ -100,7 +95,6 @@ impl<P: Plan, R: Rule> Enquiry<P, R> {
                 most,
                 begun: false,
                 route: Route::new(start),
-                desk: Desk::new(chart, start),
             };
             if self.search.advance() {
                 return most;
@@ -149,7 +143,6 @@ impl<P: Plan, R: Rule> Enquiry<P, R> {
             most: old.most,
             begun: false,
             route: Route::new(old.route.start),
-            desk: Desk::new(old.desk.chart, old.route.start),
         };
         Ok(())
     }

@@ -43,7 +43,6 @@ impl<P: Plan, R: Rule> Enquiry<P, R> {
         };
         self.search.cursor.begun = true;
         self.search.cursor.route = route;
-        self.search.cursor.desk.ready = false;
         Ok(())
     }
 }

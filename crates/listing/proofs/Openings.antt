@@ -55,7 +55,7 @@ posed_true false q st q' st' e = absurd (let z : ◌≡◌ {A = ℕ} 0 1 = cc in
 pub under_way : (f : FullQuestion) (pl : PlanMeaning) (ru : RuleMeaning) (a : Automaton) (d : Cursor) → pl ≡ f.plan → ru ≡ f.rule → Opened f a d → UnderWay pl ru a d
 under_way f pl ru a d p q o =
     let k = o.kept (posed_true d.posed _ _ f.question at_front o.stands) in
-    subst (λ (x : PlanMeaning). UnderWay x ru a d) (sym p) (subst (λ (x : RuleMeaning). UnderWay f.plan x a d) (sym q) k.desk)
+    subst (λ (x : PlanMeaning). UnderWay x ru a d) (sym p) (subst (λ (x : RuleMeaning). UnderWay f.plan x a d) (sym q) k.stands)
 
 pub compared : (f g : FullQuestion) (pl : PlanMeaning) (ru : RuleMeaning) (a : Automaton) (d : Cursor) (pl' : PlanMeaning) (ru' : RuleMeaning) (a' : Automaton) (d' : Cursor) (b : Bool) → pl ≡ f.plan → ru ≡ f.rule → pl' ≡ g.plan → ru' ≡ g.rule →
     Opened f a d → Opened g a' d' → Listed pl ru a d pl' ru' a' d' b → Compared f g b

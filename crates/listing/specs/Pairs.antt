@@ -11,8 +11,8 @@ use Rattle.automaton.specs.Tables.{Recognises}
 use Rattle.automaton.specs.declared.Automaton.{Automaton}
 use Rattle.route.specs.Reading.{track_of}
 use Rattle.search.specs.declared.cursor.Cursor.{Cursor}
-use Rattle.search.specs.Listings.{codes_of}
-use Rattle.search.specs.Places.{Desked}
+use Rattle.search.specs.Hunts.{space_of}
+use Rattle.search.specs.Listings.{Standing, codes_of}
 use Rattle.search.specs.Spaces.{Earlier}
 use Rattle.enquiry.specs.Promises.{asked, state_of, Kept}
 use Rattle.listing.specs.Rank.{rank}
@@ -28,7 +28,7 @@ Steps pl ru a d r ws e = (t : Tree) → Recognises a t → (q : Question) (st : 
 
 -- An answer that came leads on in the search.
 abbrev pub LeadsOn : PlanMeaning → RuleMeaning → Automaton → Cursor → Option ℕ → Cursor → Type 0
-LeadsOn pl ru a d (Some k) e = Desked pl ru a d → Desked pl ru a e × (e.begun ≡ true) × (d.begun ≡ true → Earlier (codes_of (track_of d.route)) (codes_of (track_of e.route)))
+LeadsOn pl ru a d (Some k) e = Standing (space_of pl ru a d.target d.most) (track_of d.route) → Standing (space_of pl ru a e.target e.most) (track_of e.route) × (e.begun ≡ true) × (d.begun ≡ true → Earlier (codes_of (track_of d.route)) (codes_of (track_of e.route)))
 LeadsOn pl ru a d None e = Unit {0}
 
 -- Two records of n and m words stand at the front of the words, and are the same or not.
@@ -40,9 +40,9 @@ SameRecords xs n ys m false = n ≡ m → ((i : ℕ) → i < n → i < 770 → s
 abbrev pub place : Cursor → ℕ
 place d = cond d.begun (1 + rank 256 (codes_of (track_of d.route))) 0
 
--- The search stands where it can have come to, and its desk serves it.
+-- The search stands where it can have come to.
 abbrev pub UnderWay : PlanMeaning → RuleMeaning → Automaton → Cursor → Type 0
-UnderWay pl ru a d = Desked pl ru a d
+UnderWay pl ru a d = Standing (space_of pl ru a d.target d.most) (track_of d.route)
 
 -- Two enquiries at the front of their listings, and whether they have the same answers.
 abbrev pub Listed : PlanMeaning → RuleMeaning → Automaton → Cursor → PlanMeaning → RuleMeaning → Automaton → Cursor → Bool → Type 0

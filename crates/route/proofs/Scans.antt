@@ -11,7 +11,7 @@ or_assoc true b c = refl
 or_assoc false b c = refl
 
 module _ (f : Step → ℕ) where
-  pub mem_snoc : (p : ℕ) (ss : List Step) (s : Step) → mem p (map f (ss ++ (s ∷ []))) ≡ (mem p (map f ss) || eqb p (f s))
+  mem_snoc : (p : ℕ) (ss : List Step) (s : Step) → mem p (map f (ss ++ (s ∷ []))) ≡ (mem p (map f ss) || eqb p (f s))
   mem_snoc p [] s = or-false _
   mem_snoc p (x ∷ ss) s = ap (λ (b : Bool). eqb p (f x) || b) (mem_snoc p ss s) ∙ or_assoc (eqb p (f x)) (mem p (map f ss)) (eqb p (f s))
 

@@ -5,28 +5,18 @@
 //! first `len` steps in turn without marks and masks; `track_of` is the same with them, newest step first,
 //! so that `push` is one more in front. `proofs/Views.antt` shows that the two agree.
 //!
-//! Beside its arrays the record keeps sets as bits, so that a rule answers in constant time: the passages used, and
-//! after each step the zones below 64 that are reached. Its ghost fields say that the sets hold what the arrays
-//! have (`specs/Sets.antt`). `pop` takes a passage out of the set only if no earlier step has it; the sets of zones
-//! stay behind the last step, where they say nothing.
-//!
 //! A passing rule implements `Rule`. Its ghost `meaning` is a `RuleMeaning` of crate `model`, so it sees
 //! start, passages and zones and never marks or masks, and it owes two laws: an allowed route uses no
 //! passage twice, and is no longer than the greatest length that the rule states. `Trail`, `Acyclic` and `Simple`
 //! mean `trail`, `acyclic` and `simple` of crate `model`, whose theorem `Restrictors` says that they allow exactly
 //! the trails, the acyclic and the simple routes.
 //!
-//! A rule may also name zones that no longer route can reach (`barred`, `specs/Barring.antt`), so that a search need
-//! not look for a way through them.
-//!
 //! No allowed route of a plan has more than 256 passages, since none repeats, whatever a rule states: that is
 //! the theorem of `routes_are_short`, and `length_limit` is the smaller of the two numbers.
 ghost use Rattle.std.specs.Prelude.{◌≡◌, ◌≤◌};
-ghost use Rattle.route.specs.Sets.{SetOf, Freshness, Snapshots};
 
 pub mod passing;
 pub mod restrictors;
-mod sets;
 pub mod steps;
 
 pub use passing::{Rule, length_limit, routes_are_short};
@@ -41,16 +31,7 @@ pub struct Route {
     pub marks: [u8; 256],
     pub masks: [u32; 256],
     pub len: usize,
-    /// The passages of the route: passage p is bit p % 64 of used[p / 64].
-    pub used: [u64; 4],
-    /// Whether no earlier step has the passage of the step.
-    pub fresh: [bool; 256],
-    /// At i the zones below 64 that the first i steps reach, zone z as bit z.
-    pub seen: [u64; 257],
     ghost fits: { len ≤ 256 },
-    ghost holds: { SetOf used passages len },
-    ghost freshness: { Freshness fresh passages len },
-    ghost snapshots: { Snapshots seen zones len },
 }
 
 impl Route {
@@ -65,9 +46,6 @@ impl Route {
             marks: [0; 256],
             masks: [0; 256],
             len: 0,
-            used: [0; 4],
-            fresh: [false; 256],
-            seen: [0; 257],
         }
     }
 }

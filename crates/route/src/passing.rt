@@ -1,7 +1,6 @@
 //! What every passing rule promises.
 ghost use Rattle.std.specs.Prelude.{◌≡◌, ℕ};
 ghost use Rattle.model.specs.Rules.{RuleMeaning, KeepsLaws};
-ghost use Rattle.route.specs.Barring.{Bars};
 ghost use Rattle.route.specs.Reading.{route_of};
 ghost use Rattle.route.specs.Limits.{limit, RoutesAreShort};
 
@@ -23,14 +22,6 @@ pub trait Rule {
     /// Whether the route may go on by the passage into the zone.
     fn may_add(&self, route: &Route, passage: u8, zone: u8) -> bool
         ensures { result ≡ (meaning self.now).permits (route_of route.now) passage zone };
-
-    /// Zones that no longer route can reach: bit z is set only if no allowed extension of this route reaches
-    /// zone z. A rule that says nothing bars none.
-    fn barred(&self, route: &Route) -> u64
-        ensures { Bars (meaning self.now) (route_of route.now) result }
-    {
-        0
-    }
 
     ghost keeps: { (x : Self) → KeepsLaws (meaning x) };
 }

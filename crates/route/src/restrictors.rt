@@ -44,10 +44,6 @@ impl Rule for Acyclic {
     fn may_add(&self, route: &Route, _passage: u8, zone: u8) -> bool {
         !(zone == route.start || route.reaches(zone))
     }
-
-    fn barred(&self, route: &Route) -> u64 {
-        route.visited()
-    }
 }
 
 /// No zone twice, but a route may end where it starts.
@@ -67,9 +63,5 @@ impl Rule for Simple {
 
     fn may_add(&self, route: &Route, _passage: u8, zone: u8) -> bool {
         !route.reaches(zone) && route.is_open()
-    }
-
-    fn barred(&self, route: &Route) -> u64 {
-        route.reached()
     }
 }

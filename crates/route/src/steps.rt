@@ -1,13 +1,11 @@
 //! The record as a stack of steps, and what a rule asks of it.
-ghost use Rattle.std.specs.Prelude.{◌≡◌, ℕ, ◌<◌, ◌≤◌, ◌&&◌, length, nat_lt};
-ghost use Rattle.bits.specs.Bit.{has_bit};
-ghost use Rattle.model.specs.Routes.{end as end-zone, passages as passages-of, zones_of};
+ghost use Rattle.std.specs.Prelude.{◌≡◌, ℕ, ◌<◌, ◌≤◌, length, nat_lt};
+ghost use Rattle.model.specs.Routes.{end as end-zone, passages as passages-of};
 ghost use Rattle.model.specs.Rules.{mem};
 ghost use Rattle.route.specs.Tracks.{extend, popped, last_zone, last_mask, longer, shorter};
 ghost use Rattle.route.specs.Reading.{route_of, track_of, reached_zones, open_ended, LastAt, Written};
 
 use crate::Route;
-use crate::sets::{has, put, single, undo_put};
 
 impl Route {
     /// The place of the last step.
@@ -72,8 +70,6 @@ impl Route {
         self.zones[at] = zone;
         self.marks[at] = mark;
         self.masks[at] = mask;
-        self.fresh[at] = put(&mut self.used, passage);
-        self.seen[at + 1] = self.seen[at] | single(zone);
         self.len = at + 1;
     }
 
@@ -97,9 +93,6 @@ impl Route {
         ensures route { route_of self.new ≡ shorter (route_of self.old) }
     {
         if let Some(last) = self.last() {
-            let passage = self.passages[last];
-            let fresh = self.fresh[last];
-            undo_put(&mut self.used, passage, fresh);
             self.len = last;
         }
     }
@@ -108,29 +101,8 @@ impl Route {
     pub fn uses(&self, passage: u8) -> bool
         ensures { result ≡ mem passage (passages-of (route_of self.now)) }
     {
-        has(&self.used, passage)
-    }
-
-    /// The zones below 64 that the steps of the route reach, as a set.
-    pub fn reached(&self) -> u64
-        ensures { (z : ℕ) → has_bit result z ≡ (nat_lt z 64 && mem z (reached_zones (route_of self.now).steps)) }
-    {
-        self.seen[self.len]
-    }
-
-    /// The zones below 64 that the route visits, its start among them, as a set.
-    pub fn visited(&self) -> u64
-        ensures { (z : ℕ) → has_bit result z ≡ (nat_lt z 64 && mem z (zones_of (route_of self.now))) }
-    {
-        self.reached() | single(self.start)
-    }
-
-    /// Looks through the steps for one that reaches the zone.
-    fn finds(&self, zone: u8) -> bool
-        ensures { result ≡ mem zone (reached_zones (route_of self.now).steps) }
-    {
-        for place in 0..self.len {
-            if self.zones[place] == zone {
+        for step in 0..self.len {
+            if self.passages[step] == passage {
                 return true;
             }
         }
@@ -141,10 +113,11 @@ impl Route {
     pub fn reaches(&self, zone: u8) -> bool
         ensures { result ≡ mem zone (reached_zones (route_of self.now).steps) }
     {
-        if zone < 64 {
-            (self.reached() >> zone) % 2 == 1
-        } else {
-            self.finds(zone)
+        for place in 0..self.len {
+            if self.zones[place] == zone {
+                return true;
+            }
         }
+        false
     }
 }

@@ -44,30 +44,6 @@ fn two_passages_between_the_same_zones(rt: HostRuntime) {
 }
 
 #[test]
-fn a_passage_twice(rt: HostRuntime) {
-    let mut route = Route::new(0);
-    assert!(rt; route.push(200, 1, 0, 1));
-    assert!(rt; route.push(200, 70, 0, 1));
-    assert!(rt; route.reaches(70));
-    route.pop();
-    assert!(rt; !route.reaches(70));
-    assert!(rt; route.uses(200), "the first step has it still");
-    route.pop();
-    assert!(rt; !route.uses(200));
-}
-
-#[test]
-fn zones_out_of_reach(rt: HostRuntime) {
-    let mut route = Route::new(3);
-    assert!(rt; route.push(1, 5, 0, 1));
-    assert!(rt; route.push(2, 70, 0, 1));
-    assert_eq!(rt; Trail.barred(&route), 0);
-    assert_eq!(rt; Acyclic.barred(&route), 0b101000);
-    assert_eq!(rt; Simple.barred(&route), 0b100000);
-    assert_eq!(rt; LiftsEarly.barred(&route), 0);
-}
-
-#[test]
 fn an_empty_route(rt: HostRuntime) {
     let mut route = Route::new(9);
     assert_eq!(rt; route.here(), 9);

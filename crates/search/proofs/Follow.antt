@@ -1,9 +1,9 @@
 -- What is left to list behind a position.
 use Rattle.std.proofs.Common.{◌≡◌, ℕ, zero, suc, ◌+◌, ◌%◌, ◌<◌, ◌≤◌, Bool, true, false, ◌⊎◌, List, [], ◌∷◌, Some, None, Option, sym, refl, ap, ◌∙◌, subst, inl, inr, ⊎_elim, arith}
 use Rattle.route.specs.Tracks.{Taken, Track}
-use Rattle.search.specs.Spaces.{Code, Space, added, Goal, Before, Earlier, Onward, Begins, Nothing}
+use Rattle.search.specs.Spaces.{Code, Space, added, grow, Goal, Before, Earlier, Onward, Begins, First, Nothing, Sought}
 use Rattle.search.specs.Listings.{code_of, codes_on, codes_of, route_at, StandingOn, Standing, Follows, Followed}
-use Rattle.search.proofs.Searches.{asym, irr, code_is, not_both, by_order, lower, same, higher, onward_all, answer_down, answer_up}
+use Rattle.search.proofs.Searches.{asym, irr, onward_all, answer_down, answer_up, grow_down, answer_none}
 
 -- w goes on from xs, and with what P says
 abbrev pub Goes : List Taken → (List Code → Type 0) → List Code → Type 0
@@ -77,22 +77,6 @@ onward_before x [] h = h
 onward_before x (d ∷ v) (inl h) = inl h
 onward_before x (d ∷ v) (inr h) = inr (sym h.0, omega (arith, h.1))
 
--- a code from x on is x or behind it, and not before it
-onward_split : (x : Taken) (c : Code) → Onward x.passage x.mark c → (c ≡ code_of x) ⊎ Before (code_of x) c
-onward_split x c (inl h) = inr (inl h)
-onward_split x c (inr h) = elim (by_order x.mark c.mark) [ lower l ↦ inr (inr (sym h.0, l)) | same l ↦ inl (code_is c x.passage x.mark h.0 (sym l)) | higher l ↦ absurd (omega (arith, h.1)) ]
-
-onward_not : (x : Taken) (c : Code) → Onward x.passage x.mark c → Before c (code_of x) → ⊥
-onward_not x c (inl a) (inl b) = omega arith
-onward_not x c (inl a) (inr b) = omega arith
-onward_not x c (inr a) (inl b) = omega arith
-onward_not x c (inr a) (inr b) = omega arith
-
-behind_onward : (x : Taken) (v : List Code) → Begins (Before (code_of x)) v → Begins (Onward x.passage x.mark) v
-behind_onward x [] h = h
-behind_onward x (d ∷ v) (inl h) = inl h
-behind_onward x (d ∷ v) (inr h) = inr (sym h.0, omega (arith, h.1))
-
 module _ (t : Space) (z : ℕ) where
   pub answer_to : (xs : List Taken) (v : List Code) → StandingOn t z xs → Goal t (route_at z []) (codes_on xs v) → Goal t (route_at z xs) v
   answer_to [] v s a = a
@@ -101,6 +85,24 @@ module _ (t : Space) (z : ℕ) where
   pub answer_from : (xs : List Taken) (v : List Code) → StandingOn t z xs → Goal t (route_at z xs) v → Goal t (route_at z []) (codes_on xs v)
   answer_from [] v s a = a
   answer_from (x ∷ xs) v s a = answer_from xs (code_of x ∷ v) s.0 (answer_up t (route_at z xs) (code_of x) v (x.zone, x.mask) s.1 a)
+
+  -- what an answer below a standing route grows to
+  pub record Grown (xs : List Taken) (v : List Code) : Type 0 where
+    pub starts : (grow t (route_at z xs) v).start ≡ z
+    pub stands : StandingOn t z (grow t (route_at z xs) v).steps
+    pub codes : codes_of (grow t (route_at z xs) v) ≡ codes_on xs v
+
+  pub grown : (v : List Code) (xs : List Taken) → StandingOn t z xs → Goal t (route_at z xs) v → Grown xs v
+  grown [] xs s a = record { starts = refl; stands = s; codes = refl }
+  grown (c ∷ v) xs s a = go (grown v) (t.reach (route_at z xs) c) refl
+    where
+      go : ((ys : List Taken) → StandingOn t z ys → Goal t (route_at z ys) v → Grown ys v) → (o : Option (ℕ × ℕ)) → t.reach (route_at z xs) c ≡ o → Grown xs (c ∷ v)
+      go ih None e = absurd (answer_none t (route_at z xs) c v e a)
+      go ih (Some y) e =
+          let x : Taken = record { passage = c.passage; zone = y.0; mark = c.mark; mask = y.1 } in
+          let g = grow_down t (route_at z xs) c v y e in
+          let h = ih (x ∷ xs) (s, e) (answer_down t (route_at z xs) c v y e a) in
+          record { starts = ap (λ (r : Track). r.start) g ∙ h.starts; stands = subst (λ (r : Track). StandingOn t z r.steps) (sym g) h.stands; codes = ap codes_of g ∙ h.codes }
 
   -- what is left to list is what is behind the position
   pub record Rest (u : List Code) (xs : List Taken) (p m : ℕ) : Type 0 where
@@ -126,64 +128,26 @@ module _ (t : Space) (z : ℕ) where
   pub rest_none : (u : List Code) (p m : ℕ) → Rest u [] p m → Nothing t (route_at z []) (Onward p m) → (w : List Code) → Goal t (route_at z []) w → Earlier u w → ⊥
   rest_none u p m r n w a h = ⊎_elim (λ k. n k.0 k.2 (subst (Goal t (route_at z [])) k.1 a)) (λ k. k) (r.to w a h)
 
-  -- a position moves over codes that lead to no answer
-  pub rest_skip : (u : List Code) (xs : List Taken) (p m q n : ℕ) → Rest u xs p m → ((c : Code) → Onward q n c → Onward p m c) → ((c : Code) (v : List Code) → Onward p m c → Goal t (route_at z xs) (c ∷ v) → Onward q n c) → Rest u xs q n
-  rest_skip u xs p m q n r down up = record { stands = r.stands; to = to; from = λ w h. r.from w (⊎_elim (λ k. inl (k.0, k.1, lower k.0 k.2)) (λ k. inr k) h) }
-    where
-      lower : (v : List Code) → Begins (Onward q n) v → Begins (Onward p m) v
-      lower [] b = b
-      lower (c ∷ v) b = down c b
-
-      raise : (v : List Code) → Begins (Onward p m) v → Goal t (route_at z xs) v → Begins (Onward q n) v
-      raise [] b g = b
-      raise (c ∷ v) b g = up c v b g
-
-      to : (w : List Code) → Goal t (route_at z []) w → Earlier u w → Past xs q n w
-      to w a h = ⊎_elim (λ k. inl (k.0, k.1, raise k.0 k.2 (answer_to xs k.0 r.stands (subst (Goal t (route_at z [])) k.1 a)))) (λ k. inr k) (r.to w a h)
-
-  -- a step is taken, and is no answer itself
-  pub rest_push : (u : List Code) (x : Taken) (xs : List Taken) → Rest u xs x.passage x.mark → t.reach (route_at z xs) (code_of x) ≡ Some (x.zone, x.mask) → t.final (route_at z (x ∷ xs)) ≡ false → Rest u (x ∷ xs) 0 0
-  rest_push u x xs r e f = record { stands = (r.stands, e); to = to; from = from }
-    where
-      deeper : (w v : List Code) → w ≡ codes_on xs (code_of x ∷ v) → Goal t (route_at z (x ∷ xs)) v → Past (x ∷ xs) 0 0 w
-      deeper w [] q g = absurd (not_both _ g f)
-      deeper w (d ∷ v) q g = inl (d ∷ v, q, onward_all d)
-
-      below : (w v : List Code) → w ≡ codes_on xs v → Begins (Onward x.passage x.mark) v → Goal t (route_at z xs) v → Past (x ∷ xs) 0 0 w
-      below w [] q b g = absurd b
-      below w (c ∷ v) q b g = ⊎_elim
-          (λ y. deeper w v (q ∙ ap (λ (d : Code). codes_on xs (d ∷ v)) y) (answer_down t (route_at z xs) (code_of x) v (x.zone, x.mask) e (subst (λ (d : Code). Goal t (route_at z xs) (d ∷ v)) y g)))
-          (λ y. inr (inl (c ∷ v, q, y)))
-          (onward_split x c b)
-
-      to : (w : List Code) → Goal t (route_at z []) w → Earlier u w → Past (x ∷ xs) 0 0 w
-      to w a h = ⊎_elim (λ k. below w k.0 k.1 k.2 (answer_to xs k.0 r.stands (subst (Goal t (route_at z [])) k.1 a))) (λ k. inr (inr k)) (r.to w a h)
-
-      from : (w : List Code) → Past (x ∷ xs) 0 0 w → Earlier u w
-      from w (inl k) = r.from w (inl (code_of x ∷ k.0, k.1, inr (refl, omega arith)))
-      from w (inr (inl k)) = r.from w (inl (k.0, k.1, behind_onward x k.0 k.2))
-      from w (inr (inr k)) = r.from w (inr k)
-
-  -- a step is taken, and is an answer
-  pub rest_here : (u : List Code) (x : Taken) (xs : List Taken) → Rest u xs x.passage x.mark → t.reach (route_at z xs) (code_of x) ≡ Some (x.zone, x.mask) → t.final (route_at z (x ∷ xs)) ≡ true → Follows t z u (route_at z (x ∷ xs))
-  rest_here u x xs r e f = record {
-    starts = refl;
-    stands = (r.stands, e);
-    answer = answer_from (x ∷ xs) [] (r.stands, e) f;
-    later = r.from (codes_on xs (code_of x ∷ [])) (inl (code_of x ∷ [], refl, inr (refl, omega arith)));
-    least = λ w a h k.
-        ⊎_elim
-        (λ l. none l.0 l.2 (cancel xs l.0 (code_of x ∷ []) (subst (λ (y : List Code). Earlier y (codes_on xs (code_of x ∷ []))) l.1 k)))
-        (λ l. earlier_asym (codes_on xs (code_of x ∷ [])) w (later_from xs (code_of x ∷ []) w (inr l)) k)
-        (r.to w a h);
-  }
-    where
-      none : (v : List Code) → Begins (Onward x.passage x.mark) v → Earlier v (code_of x ∷ []) → ⊥
-      none [] b h = b
-      none (c ∷ []) b (inl h) = onward_not x c b h
-      none (c ∷ []) b (inr h) = h.1
-      none (c ∷ (d ∷ v)) b (inl h) = onward_not x c b h
-      none (c ∷ (d ∷ v)) b (inr h) = h.1
+  pub rest_found : (u : List Code) (xs : List Taken) (p m : ℕ) (e : Track) → Rest u xs p m → Sought t (route_at z xs) (Onward p m) true e → Follows t z u e
+  unfolding Sought
+  rest_found u xs p m e r q =
+      let v = q.0 in
+      let g = grown v xs r.stands q.2.answer in
+      let starts : e.start ≡ z = ap (λ (r : Track). r.start) q.1 ∙ g.starts in
+      let on : StandingOn t z e.steps = subst (λ (r : Track). StandingOn t z r.steps) (sym q.1) g.stands in
+      let codes : codes_of e ≡ codes_on xs v = ap codes_of q.1 ∙ g.codes in
+      record {
+        starts = starts;
+        stands = subst (λ (y : ℕ). StandingOn t y e.steps) (sym starts) on;
+        answer = subst (Goal t (route_at z [])) (sym codes) (answer_from xs v r.stands q.2.answer);
+        later = subst (Earlier u) (sym codes) (r.from (codes_on xs v) (inl (v, refl, q.2.begins)));
+        least = λ w a h k.
+            let k' : Earlier w (codes_on xs v) = subst (Earlier w) codes k in
+            ⊎_elim
+            (λ l. q.2.least l.0 l.2 (answer_to xs l.0 r.stands (subst (Goal t (route_at z [])) l.1 a)) (cancel xs l.0 v (subst (λ (y : List Code). Earlier y (codes_on xs v)) l.1 k')))
+            (λ l. earlier_asym (codes_on xs v) w (later_from xs v w (inr l)) k')
+            (r.to w a h);
+      }
 
   pub followed_true : (s e : Track) → s.start ≡ z → Follows t z (codes_of s) e → Followed t s true e
   unfolding Followed

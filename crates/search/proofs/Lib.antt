@@ -1,12 +1,5 @@
 pub mod Reaches
 pub mod Searches
-pub mod Steps
-pub mod Distances
-pub mod Floods
 pub mod Follow
-pub mod Deliver
-pub mod Weights
-pub mod Spread
-pub mod Deskwork
-pub mod Laying
 pub mod Turns
+pub mod Deliver

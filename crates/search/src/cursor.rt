@@ -1,11 +1,9 @@
 ghost use Rattle.std.specs.Prelude.{◌≡◌, ◌≤◌, false};
 
-use crate::desk::Desk;
 use model::Choice;
 use route::Route;
 
-/// Where an enquiry stands: the question, the greatest length, and the route that was delivered last; and the desk on
-/// which the next one is sought.
+/// Where an enquiry stands: the question, the greatest length, and the route that was delivered last.
 #[derive(Clone, Copy)]
 pub struct Cursor {
     pub posed: bool,
@@ -14,7 +12,6 @@ pub struct Cursor {
     pub most: usize,
     pub begun: bool,
     pub route: Route,
-    pub desk: Desk,
     ghost short: { most ≤ 256 },
     ghost fresh: { (begun ≡ false → route.len ≡ 0) },
 }

@@ -1,8 +1,8 @@
 ghost use Rattle.std.specs.Prelude.{◌≡◌, ℕ, ◌<◌, ◌≤◌, true, false};
 ghost use Rattle.route.specs.Reading.{track_of};
 ghost use Rattle.search.specs.Hunts.{space_of};
-ghost use Rattle.search.specs.Listings.{Delivered};
-ghost use Rattle.search.specs.Places.{Desked};
+ghost use Rattle.search.specs.Listings.{Standing, Followed, Delivered};
+ghost use Rattle.search.specs.Spaces.{Sought, Only, Marks, Onward};
 
 use crate::cursor::Cursor;
 use automaton::Automaton;
@@ -45,31 +45,86 @@ impl<P: Plan, R: Rule> Search<P, R> {
         route.here() == self.cursor.target && (route.mask(1 << 31) & self.automaton.accept) != 0
     }
 
-    /// Goes on to the next answer, and says whether there is one; if not, the cursor stays where it stands.
+    #[cycle(seek_step_into_try_marks)]
+    fn step_into(&self, route: &mut Route, passage: u8, mark: u8) -> bool
+        ensures { Sought (space_of (P.Plan.meaning self.now.plan) (R.Rule.meaning self.now.rule) self.now.automaton self.now.cursor.target self.now.cursor.most) (track_of route.old) (Only passage mark) result (track_of route.new) }
+    {
+        let Some((zone, mask)) = self.reach(route, passage, mark) else {
+            return false;
+        };
+        route.push(passage, zone, mark, mask);
+        if self.is_answer(route) || self.seek(route, 0, 0) {
+            return true;
+        }
+        route.pop();
+        false
+    }
+
+    #[cycle(seek_step_into_try_marks)]
+    fn try_marks(&self, route: &mut Route, passage: u8, from: u8) -> bool
+        ensures { Sought (space_of (P.Plan.meaning self.now.plan) (R.Rule.meaning self.now.rule) self.now.automaton self.now.cursor.target self.now.cursor.most) (track_of route.old) (Marks passage from) result (track_of route.new) }
+    {
+        let mut mark = from;
+        while mark < 9 {
+            if self.step_into(route, passage, mark) {
+                return true;
+            }
+            mark += 1;
+        }
+        false
+    }
+
+    #[cycle(seek_step_into_try_marks)]
+    fn seek(&self, route: &mut Route, passage: usize, mark: u8) -> bool
+        ensures { Sought (space_of (P.Plan.meaning self.now.plan) (R.Rule.meaning self.now.rule) self.now.automaton self.now.cursor.target self.now.cursor.most) (track_of route.old) (Onward passage mark) result (track_of route.new) }
+    {
+        let zone = route.here();
+        let mut next = passage;
+        while let Some(found) = self.plan.leaving(zone, next) {
+            let from = if found as usize == passage { mark } else { 0 };
+            if self.try_marks(route, found, from) {
+                return true;
+            }
+            next = found as usize + 1;
+        }
+        false
+    }
+
+    fn follow(&self, route: &mut Route) -> bool
+        ensures { Standing (space_of (P.Plan.meaning self.now.plan) (R.Rule.meaning self.now.rule) self.now.automaton self.now.cursor.target self.now.cursor.most) (track_of route.old) → Followed (space_of (P.Plan.meaning self.now.plan) (R.Rule.meaning self.now.rule) self.now.automaton self.now.cursor.target self.now.cursor.most) (track_of route.old) result (track_of route.new) }
+    {
+        let mut passage = 0;
+        let mut mark = 0;
+        loop {
+            if self.seek(route, passage, mark) {
+                return true;
+            }
+            if route.len == 0 {
+                return false;
+            }
+            passage = route.passages[route.len - 1] as usize;
+            mark = route.marks[route.len - 1] % 9 + 1;
+            route.pop();
+        }
+    }
+
     pub fn advance(&mut self) -> bool
-        ensures told { Desked (P.Plan.meaning self.old.plan) (R.Rule.meaning self.old.rule) self.old.automaton self.old.cursor → Delivered (space_of (P.Plan.meaning self.old.plan) (R.Rule.meaning self.old.rule) self.old.automaton self.old.cursor.target self.old.cursor.most) self.old.cursor.begun (track_of self.old.cursor.route) result (track_of self.new.cursor.route) × Desked (P.Plan.meaning self.old.plan) (R.Rule.meaning self.old.rule) self.old.automaton self.new.cursor }
+        ensures told { Standing (space_of (P.Plan.meaning self.old.plan) (R.Rule.meaning self.old.rule) self.old.automaton self.old.cursor.target self.old.cursor.most) (track_of self.old.cursor.route) → Delivered (space_of (P.Plan.meaning self.old.plan) (R.Rule.meaning self.old.rule) self.old.automaton self.old.cursor.target self.old.cursor.most) self.old.cursor.begun (track_of self.old.cursor.route) result (track_of self.new.cursor.route) }
         ensures kept { (self.new.plan ≡ self.old.plan) × ((self.new.rule ≡ self.old.rule) × ((self.new.automaton ≡ self.old.automaton) × ((self.new.cursor.target ≡ self.old.cursor.target) × (self.new.cursor.most ≡ self.old.cursor.most)))) }
         ensures asks { (self.new.cursor.posed ≡ self.old.cursor.posed) × (self.new.cursor.choice ≡ self.old.cursor.choice) }
-        ensures none { result ≡ false → (self.new.cursor.route ≡ self.old.cursor.route) × (self.new.cursor.begun ≡ self.old.cursor.begun) }
+        ensures none { result ≡ false → self.new.cursor ≡ self.old.cursor }
         ensures some { result ≡ true → self.new.cursor.begun ≡ true }
     {
-        if !self.cursor.begun && self.is_answer(&self.cursor.route) {
+        let mut route = self.cursor.route;
+        if !self.cursor.begun && self.is_answer(&route) {
             self.cursor.begun = true;
             return true;
         }
-        let target = self.cursor.target;
-        let most = self.cursor.most;
-        let found = self.cursor.desk.seek(
-            &self.rule,
-            &self.automaton,
-            target,
-            most,
-            &self.cursor.route,
-        );
-        if found {
+        if self.follow(&mut route) {
             self.cursor.begun = true;
-            self.cursor.route = self.cursor.desk.route;
+            self.cursor.route = route;
+            return true;
         }
-        found
+        false
     }
 }

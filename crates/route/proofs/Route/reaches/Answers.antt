@@ -1,10 +1,13 @@
-use Rattle.std.proofs.Common.{Bool, ◌&&◌, ap, ◌∙◌, arith, lt-ltb}
-use Rattle.model.specs.Rules.{mem}
-use Rattle.route.specs.Reading.{route_of, reached_zones}
+use Rattle.std.proofs.Common.{sym, arith}
+use Rattle.model.specs.Routes.{Step}
+use Rattle.route.proofs.Scans.{none_yet, none_more, found}
 use Rattle.route.proofs.Route.reaches.Goals as goal
 
-pub returns-then-zone-lt64 : goal.returns-then-zone-lt64
-returns-then-zone-lt64 c =
-    let r = c.args.self.now in
-    let z = c.args.zone in
-    c.reached.ensures z ∙ ap (λ (b : Bool). b && mem z (reached_zones (route_of r).steps)) (lt-ltb z 64 (omega arith))
+pub loop-place-init : goal.loop-place-init
+loop-place-init c = none_yet (λ (s : Step). s.reached) c.args.self.now c.args.zone
+
+pub returns-then-self-place : goal.returns-then-self-place
+returns-then-self-place c = sym (found (λ (s : Step). s.reached) c.args.self.now c.args.zone c.loop-place.place c.args.self.now.len (omega arith) c.if-self-place.true)
+
+pub loop-place-preserved : goal.loop-place-preserved
+loop-place-preserved c = none_more (λ (s : Step). s.reached) c.args.self.now c.args.zone c.loop-place.place c.loop-place.invariant c.if-self-place.false

@@ -6,4 +6,4 @@ pub returns-then-not-self : goal.returns-then-not-self
 returns-then-not-self g c = record { relation = again_refused _ _ (g.met.R.Rule.keeps c.args.self.now.search.rule) _ _ c.if-not-self.true; same = (refl, (refl, refl)); refused = refl; front = tt }
 
 pub returns : goal.returns
-returns g c = record { relation = again_accepted _ _ (g.met.R.Rule.keeps c.args.self.now.search.rule) _ _ _ c.if-not-self.false refl refl c.new.ensures.1 (record { start = c.new.ensures.0; target = refl; choice = refl; most = refl }) c.new-2.ensures.0 c.new-2.ensures.1; same = (refl, (refl, refl)); refused = tt; front = refl }
+returns g c = record { relation = again_accepted _ _ (g.met.R.Rule.keeps c.args.self.now.search.rule) _ _ _ c.if-not-self.false refl refl c.new.ensures.1 (record { start = c.new.ensures.0; target = refl; choice = refl; most = refl }); same = (refl, (refl, refl)); refused = tt; front = refl }

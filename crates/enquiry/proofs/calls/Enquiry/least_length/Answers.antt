@@ -1,6 +1,4 @@
-use Rattle.std.proofs.Common.{◌≡◌, ◌≤◌, sym, refl, ap, ◌∙◌, subst, arith}
-use Rattle.chart.specs.Charts.{Charts}
-use Rattle.chart.specs.declared.Chart.{Chart}
+use Rattle.std.proofs.Common.{◌≡◌, ◌≤◌, sym, refl, ap, ◌∙◌, arith}
 use Rattle.route.specs.Reading.{track_of}
 use Rattle.enquiry.proofs.Deepen.{found, none, all_tried, told_same, Under}
 use Rattle.enquiry.proofs.calls.Enquiry.least_length.Goals as goal
@@ -10,8 +8,8 @@ returns-then-advance g c =
     let k = c.if-advance.ensures in
     let i = c.loop-most.invariant in
     record {
-      least = λ ch tz. found (g.P.Plan.meaning c.args.self.now.search.plan) (g.R.Rule.meaning c.args.self.now.search.rule) (g.met.R.Rule.keeps c.args.self.now.search.rule) c.args.self.now.search.automaton c.args.start c.args.target c.loop-most.most c.new.result (track_of c.advance.new.self.cursor.route) c.new.ensures.0 c.new.ensures.1
-          (told_same c.args.target c.loop-most.most c.new-in-loop-most.result c.new.result _ _ (ap g.P.Plan.meaning i.0) (ap g.R.Rule.meaning i.1) i.2 k.told (subst (λ (x : Chart). Charts (g.P.Plan.meaning c.args.self.now.search.plan) c.args.self.now.search.automaton c.args.target x) (sym c.new-in-loop-most.ensures.0) ch) tz c.new-in-loop-most.ensures.1 c.new.ensures.1) (i.4 ch tz);
+      least = found (g.P.Plan.meaning c.args.self.now.search.plan) (g.R.Rule.meaning c.args.self.now.search.rule) (g.met.R.Rule.keeps c.args.self.now.search.rule) c.args.self.now.search.automaton c.args.start c.args.target c.loop-most.most c.new.result (track_of c.advance.new.self.cursor.route) c.new.ensures.0 c.new.ensures.1
+          (told_same c.args.target c.loop-most.most _ _ _ _ (ap g.P.Plan.meaning i.0) (ap g.R.Rule.meaning i.1) i.2 k.told) i.4;
       short = omega (arith, i.3, c.length-limit-limit.ensures);
       same = (k.kept.0 ∙ i.0, (k.kept.1.0 ∙ i.1, k.kept.1.1.0 ∙ i.2));
     }
@@ -24,8 +22,8 @@ loop-most-preserved g c =
       k.kept.1.0 ∙ i.1,
       k.kept.1.1.0 ∙ i.2,
       omega arith,
-      λ ch tz. none (g.P.Plan.meaning c.args.self.now.search.plan) (g.R.Rule.meaning c.args.self.now.search.rule) (g.met.R.Rule.keeps c.args.self.now.search.rule) c.args.self.now.search.automaton c.args.start c.args.target c.loop-most.most c.new.result (track_of c.advance.new.self.cursor.route) c.new.ensures.0 c.new.ensures.1
-          (told_same c.args.target c.loop-most.most c.new-in-loop-most.result c.new.result _ _ (ap g.P.Plan.meaning i.0) (ap g.R.Rule.meaning i.1) i.2 k.told (subst (λ (x : Chart). Charts (g.P.Plan.meaning c.args.self.now.search.plan) c.args.self.now.search.automaton c.args.target x) (sym c.new-in-loop-most.ensures.0) ch) tz c.new-in-loop-most.ensures.1 c.new.ensures.1) (i.4 ch tz),
+      none (g.P.Plan.meaning c.args.self.now.search.plan) (g.R.Rule.meaning c.args.self.now.search.rule) (g.met.R.Rule.keeps c.args.self.now.search.rule) c.args.self.now.search.automaton c.args.start c.args.target c.loop-most.most c.new.result (track_of c.advance.new.self.cursor.route) c.new.ensures.0 c.new.ensures.1
+          (told_same c.args.target c.loop-most.most _ _ _ _ (ap g.P.Plan.meaning i.0) (ap g.R.Rule.meaning i.1) i.2 k.told) i.4,
     )
 
 pub returns : goal.returns
@@ -33,8 +31,8 @@ returns g c =
     let i = c.loop-most.invariant in
     let e : c.loop-most.most ≡ c.length-limit-limit.result = omega arith in
     record {
-      least = λ ch tz. all_tried (g.P.Plan.meaning c.args.self.now.search.plan) (g.R.Rule.meaning c.args.self.now.search.rule) (g.met.R.Rule.keeps c.args.self.now.search.rule) c.args.self.now.search.automaton c.args.start c.args.target c.length-limit-limit.result c.length-limit-limit.ensures
-          (λ t rec low b k. omega (arith, i.4 ch tz t rec low b k, e));
+      least = all_tried (g.P.Plan.meaning c.args.self.now.search.plan) (g.R.Rule.meaning c.args.self.now.search.rule) (g.met.R.Rule.keeps c.args.self.now.search.rule) c.args.self.now.search.automaton c.args.start c.args.target c.length-limit-limit.result c.length-limit-limit.ensures
+          (λ t rec low b k. omega (arith, i.4 t rec low b k, e));
       short = omega (arith, c.length-limit-limit.ensures);
       same = (i.0, (i.1, i.2));
     }

@@ -1,5 +1,4 @@
-use Rattle.std.proofs.Common.{◌≡◌, ◌-◌, ◌<◌, ◌≤◌}
-use Rattle.chart.specs.Charts.{Charts}
+use Rattle.std.proofs.Common.{◌≡◌, ◌-◌, ◌≤◌}
 use Rattle.enquiry.proofs.Deepen.{Under}
 use Rattle.enquiry.proofs.calls.Enquiry.least_length.Given as goal
 
@@ -9,7 +8,7 @@ invariant-loop-most g l =
     × (l.self.search.rule ≡ l.initial.self.search.rule)
     × (l.self.search.automaton ≡ l.initial.self.search.automaton)
     × (l.most ≤ l.limit)
-    × (Charts (g.P.Plan.meaning l.initial.self.search.plan) l.initial.self.search.automaton l.target l.chart → l.target < (g.P.Plan.meaning l.initial.self.search.plan).zones → Under (g.P.Plan.meaning l.initial.self.search.plan) (g.R.Rule.meaning l.initial.self.search.rule) l.initial.self.search.automaton l.start l.target l.most)
+    × Under (g.P.Plan.meaning l.initial.self.search.plan) (g.R.Rule.meaning l.initial.self.search.rule) l.initial.self.search.automaton l.start l.target l.most
 
 abbrev pub decreases-loop-most : goal.decreases-loop-most
 decreases-loop-most g l = l.limit - l.most

@@ -15,14 +15,14 @@ returns-then-advance g c =
       relation = next_some _ _ (g.met.R.Rule.keeps c.args.self.now.search.rule) _ _ _ _ _ _ c.if-not-self.false c.if-buffer-lt770.false (k.asks.0 ∙ c.if-not-self.false) (k.some refl) k.kept.1.1.1.0 k.asks.1 k.kept.1.1.1.1 c.write-record-count.ensures.count c.write-record-count.ensures.wrote k.told;
       same = (k.kept.0, (k.kept.1.0, k.kept.1.1.0));
       refused = tt;
-      forward = leads_on (g.P.Plan.meaning c.args.self.now.search.plan) (g.R.Rule.meaning c.args.self.now.search.rule) c.args.self.now.search.automaton c.args.self.now.search.cursor c.advance.new.self.cursor (k.some refl) k.told;
+      forward = leads_on (g.P.Plan.meaning c.args.self.now.search.plan) (g.R.Rule.meaning c.args.self.now.search.rule) c.args.self.now.search.automaton c.args.self.now.search.cursor c.advance.new.self.cursor (k.some refl) k.kept.1.1.1.0 k.kept.1.1.1.1 k.told;
     }
 
 pub returns : goal.returns
 returns g c =
     let k = c.if-advance.ensures in
     record {
-      relation = next_none _ _ (g.met.R.Rule.keeps c.args.self.now.search.rule) _ _ _ _ c.if-not-self.false c.if-buffer-lt770.false k.asks.0 k.asks.1 k.kept.1.1.1.0 k.kept.1.1.1.1 (k.none refl).0 (k.none refl).1 k.told;
+      relation = next_none _ _ (g.met.R.Rule.keeps c.args.self.now.search.rule) _ _ _ _ c.if-not-self.false c.if-buffer-lt770.false (k.none refl) k.told;
       same = (k.kept.0, (k.kept.1.0, k.kept.1.1.0));
       refused = tt;
       forward = tt;

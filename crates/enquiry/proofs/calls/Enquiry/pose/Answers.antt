@@ -5,11 +5,7 @@ use Rattle.model.specs.declared.Choice.{Choice}
 use Rattle.model.specs.declared.Choice.TheVariants.{All, Shortest}
 use Rattle.enquiry.specs.Promises.{asked, Capped}
 use Rattle.enquiry.specs.declared.calls.Enquiry.{Enquiry}
-use Rattle.chart.specs.Charts.{Charts}
-use Rattle.chart.specs.declared.Chart.{Chart}
-use Rattle.search.specs.Hunts.{space_of}
-use Rattle.search.specs.Desks.{Served}
-use Rattle.enquiry.proofs.Cursors.{serves_anew, stands_first, pose_start, pose_target, pose_accepted, cap_all, cap_short}
+use Rattle.enquiry.proofs.Cursors.{pose_start, pose_target, pose_accepted, cap_all, cap_short}
 use Rattle.enquiry.proofs.calls.Enquiry.pose.Goals as goal
 use Rattle.enquiry.proofs.calls.Enquiry.pose.Goals.{in-All, in-Shortest}
 
@@ -24,16 +20,11 @@ returns g c =
     let pl = g.P.Plan.meaning c.args.self.now.search.plan in
     let ru = g.R.Rule.meaning c.args.self.now.search.rule in
     let low : c.args.start < pl.zones = omega arith in
-    let lim : c.args.target < pl.zones = omega arith in
-    let ch = c.read-chart.ensures (omega (arith, lim, pl.few_zones)) in
-    let a = c.args.self.now.search.automaton in
-    let desk : Served pl ru a c.args.target c.match-choice.most c.new-2.result c.new.result =
-    serves_anew pl ru a c.args.target c.match-choice.most c.new-2.result c.new.result (subst (λ (x : Chart). Charts pl a c.args.target x) (sym c.new-2.ensures.0) ch) lim (omega (arith, c.new.ensures.0, low)) (stands_first (space_of pl ru a c.args.target c.match-choice.most) c.new.result c.new.ensures.1) c.new-2.ensures.1 in
     record {
-      relation = pose_accepted _ _ (g.met.R.Rule.keeps c.args.self.now.search.rule) _ _ _ _ _ _ low (omega arith) refl refl c.new.ensures.1 c.new.ensures.0 refl refl desk
+      relation = pose_accepted _ _ (g.met.R.Rule.keeps c.args.self.now.search.rule) _ _ _ _ _ _ low (omega arith) refl refl c.new.ensures.1 c.new.ensures.0 refl refl
           (elim c.match-choice.branch [
             | in-All w ↦ cap_all pl ru c.args.self.now.search.automaton _ _ _ _ w.in-All.is (w.most-is ∙ w.length-limit-most.ensures)
-            | in-Shortest w ↦ cap_short pl ru c.args.self.now.search.automaton _ _ _ _ _ w.in-Shortest.is w.most-is low (w.least-length-most.ensures.least ch lim)
+            | in-Shortest w ↦ cap_short pl ru c.args.self.now.search.automaton _ _ _ _ _ w.in-Shortest.is w.most-is low w.least-length-most.ensures.least
           ]);
       same = elim c.match-choice.branch [
         | in-All w ↦ (ap (λ (x : Enquiry _ _). x.search.plan) w.self-is, (ap (λ (x : Enquiry _ _). x.search.rule) w.self-is, ap (λ (x : Enquiry _ _). x.search.automaton) w.self-is))

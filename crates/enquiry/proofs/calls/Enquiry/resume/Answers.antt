@@ -15,4 +15,4 @@ pub returns-in-default-walk : goal.returns-in-default-walk
 returns-in-default-walk g c = record { relation = resume_none _ _ (g.met.R.Rule.keeps c.args.self.now.search.rule) _ _ _ c.if-not-self.false c.in-default.ensures c.in-default-walk.ensures; same = (refl, (refl, refl)); refused = refl }
 
 pub returns : goal.returns
-returns g c = record { relation = resume_some _ _ (g.met.R.Rule.keeps c.args.self.now.search.rule) _ _ _ _ c.if-not-self.false c.in-default.ensures c.in-Some-walk.ensures c.if-not-self.false refl refl refl refl refl refl; same = (refl, (refl, refl)); refused = tt }
+returns g c = record { relation = resume_some _ _ (g.met.R.Rule.keeps c.args.self.now.search.rule) _ _ _ _ c.if-not-self.false c.in-default.ensures c.in-Some-walk.ensures c.if-not-self.false refl refl refl refl; same = (refl, (refl, refl)); refused = tt }
