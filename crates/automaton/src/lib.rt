@@ -4,6 +4,8 @@
 //! position may follow which, and which fit a kind and a mark. An automaton recognises a tree if it accepts exactly the
 //! words of pairs (kind, mark) that the tree reads (`specs/Readings.antt`, `specs/Tables.antt`). The combinators build
 //! one from the parts of a pattern in place, and `step` moves a set of states, a mask, along the readings of the tree.
+#![tactic(auto)]
+
 ghost use Rattle.std.specs.Prelude.{◌≡◌, ℕ, ◌+◌, ◌<◌, ◌≤◌, true, ◌⊎◌, ◌↔◌, [], ◌∷◌, ◌++◌, length, slice_index};
 ghost use Rattle.model.specs.Patterns.{Tree, name as oneName, empty as nothing, star, plus, maybe, Fits};
 ghost use Rattle.model.specs.Records.{letter};

@@ -7,6 +7,8 @@
 //!
 //! `specs/Lines.antt` says which record a track writes down, and how a pattern sees the lines of a record;
 //! `specs/Ahead.antt` says how lines lead on from a track; `specs/Statement.antt` holds the two theorems.
+#![tactic(auto)]
+
 ghost use Rattle.bridge.specs.Statement.{AnswersAgree, ReadingsAgree};
 
 /// The answers of the search are the answers of the enquiry. For every plan, pattern and lawful rule, every

@@ -1,6 +1,8 @@
 //! `doorlist`: routes over floor plans, from the command line.
 //!
 //! A thin program: it reads arguments and files, calls the proved crates and prints what they answer.
+#![tactic(auto)]
+
 mod answers;
 mod comparing;
 mod floor;

@@ -3,6 +3,8 @@
 //! Every fault belongs to one layer (1 plan, 2 pattern, 3 enquiry), has a number of its own and names
 //! the place at which the input breaks a rule. `specs/Faults.antt` lists each case with its number,
 //! layer and place; `number`, `layer` and `place` answer by that list.
+#![tactic(auto)]
+
 ghost use Rattle.std.specs.Prelude.{◌≡◌};
 ghost use Rattle.fault.specs.declared.Fault.TheVariants.{Plan, Pattern, Enquiry};
 ghost use Rattle.fault.specs.Faults.{number_of, layer_of, place_of, plan_number, plan_place, pattern_number, pattern_place, enquiry_number, enquiry_place};

@@ -5,6 +5,8 @@
 //! `specs/Grammar.antt` says it by concatenation, with the tree that each part gives. `specs/Machine.antt` reads symbols
 //! one by one; `grammar_stands` proves that it goes on exactly while some pattern begins with what it has read, that it
 //! ends with the tree that the grammar gives, and that symbols have at most one tree.
+#![tactic(auto)]
+
 ghost use Rattle.grammar.specs.Theorems.{GoesOn, GivesTree, OneTree};
 
 use model::Label;

@@ -8,6 +8,8 @@
 //!
 //! `same_listing` lists two questions side by side, which may differ in everything, and says whether the listings are
 //! equal: exactly when the two have the same answers (`specs/Queries.antt`).
+#![tactic(auto)]
+
 mod call;
 mod compare;
 mod perform;

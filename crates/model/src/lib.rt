@@ -4,6 +4,8 @@
 //! The definitions stand in `specs/`, one page for each, and everything that the other crates promise is
 //! said by them. No enquiry runs here. The code is two enums of the vocabulary, and in `theorems` one
 //! function for each theorem, whose contract is the theorem: without its proof the crate is refused.
+#![tactic(auto)]
+
 mod theorems;
 
 pub use theorems::{

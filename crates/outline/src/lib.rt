@@ -4,6 +4,8 @@
 //! parentheses, the names numbered from 1, and the letters behind them. So `badge^A free? | pin` is shown as
 //! `((1:badge^A 2:free?) | (3:pin))`. It writes what it reads and stops at the end or at a token that is none: whether a
 //! text is a pattern is for crate `pattern` to say. Proved of it is only that it is safe and ends.
+#![tactic(auto)]
+
 use grammar::{Symbol, Times};
 use model::Label;
 use reader::{Reader, next_symbol};

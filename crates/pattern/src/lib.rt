@@ -5,6 +5,8 @@
 //! answer is the first fault: the text is judged token by token from the left, each by the numbers of the faults, and
 //! its end counts as a token. `specs/Texts.antt` says which rules there are and what first means; `verdicts_stand`
 //! proves that a text has at most one tree and at most one verdict.
+#![tactic(auto)]
+
 ghost use Rattle.std.specs.Result.{MatchResult};
 ghost use Rattle.pattern.specs.Texts.{FaultOf, OneTree, OneVerdict};
 ghost use Rattle.pattern.specs.Verdicts.{Reading, Compiles};

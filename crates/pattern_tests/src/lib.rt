@@ -1,4 +1,6 @@
 //! Examples of pattern texts: which are read, which are refused, and why.
+#![tactic(auto)]
+
 use fault::Fault;
 use pattern::Pattern;
 

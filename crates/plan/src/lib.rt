@@ -8,6 +8,8 @@
 //!   `specs/FiledLaw.antt`: the same in words, and which fault is the first).
 //! - `GridPlan` computes a rectangular floor (`specs/Grid.antt`).
 //! - `Closure` is any plan without the passages that a `Sheet` shuts (`specs/Shut.antt`).
+#![tactic(auto)]
+
 mod bytes;
 mod closure;
 mod filed;

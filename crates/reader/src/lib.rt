@@ -4,6 +4,8 @@
 //! the text one by one, each with its place: a name is the longest run of a to z, a letter A to H or a sign is one byte,
 //! and spaces may stand around them. `next_symbol` knows the names. A byte of class 0 and an unknown name are faults at
 //! their place (`specs/Tokens.antt`).
+#![tactic(auto)]
+
 mod class;
 mod reader;
 mod symbol;

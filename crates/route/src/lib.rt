@@ -13,6 +13,8 @@
 //!
 //! No allowed route of a plan has more than 256 passages, since none repeats, whatever a rule states: that is
 //! the theorem of `routes_are_short`, and `length_limit` is the smaller of the two numbers.
+#![tactic(auto)]
+
 ghost use Rattle.std.specs.Prelude.{◌≡◌, ◌≤◌};
 
 pub mod passing;

@@ -2,6 +2,8 @@
 //!
 //! `Nowhere` and `LiftsEarly` show that a rule of one's own needs no more than a meaning (`specs/Own.antt`), the two
 //! laws and the two methods.
+#![tactic(auto)]
+
 ghost use Rattle.std.specs.Prelude.{◌≡◌};
 ghost use Rattle.route_tests.specs.Own.{nowhere, lifts_early};
 ghost use Rattle.route_tests.specs.Laws.{nowhere_keeps, lifts_early_keeps};

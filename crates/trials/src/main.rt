@@ -7,6 +7,8 @@
 //! Each reply and each buffer is compared, and the program stops at the first difference.
 //!
 //! `trials [SEED [FLOORS]]`: the same seed gives the same floors.
+#![tactic(auto)]
+
 mod bounds;
 mod calls;
 mod cases;
