@@ -25,6 +25,7 @@ use crate::task::carry_out;
 use std::alloc::{AllocError, Global};
 use std::env;
 use std::env::Args;
+use std::process::ExitCode;
 
 const USAGE: &str = "doorlist | doorlist (plan | list | check | run | compare | pattern) ..";
 
@@ -89,10 +90,12 @@ fn split_words(heap: Global, words: Args) -> Result<(Vec<String>, Vec<String>), 
     Ok((left, right))
 }
 
-fn main(rt: HostRuntime) -> Result<(), Problem> {
-    let outcome = run(&rt);
-    if let Err(problem) = &outcome {
-        eprintln!(rt; "{problem}")?;
+fn main(rt: HostRuntime) -> ExitCode {
+    match run(&rt) {
+        Ok(()) => ExitCode::SUCCESS,
+        Err(problem) => {
+            let _ = eprintln!(rt; "{problem}");
+            ExitCode::FAILURE
+        }
     }
-    outcome
 }

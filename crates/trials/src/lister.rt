@@ -60,7 +60,7 @@ pub(crate) fn list(
         searchable(tree, &routes, lines.is_empty())?;
         lines = shortest(heap, lines)?;
     }
-    lines.sort();
+    lines.sort()?;
     lines.dedup();
     Ok(lines)
 }

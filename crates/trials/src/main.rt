@@ -38,6 +38,7 @@ use crate::report::{show_case, show_trouble};
 use crate::rounds::{Outcome, example_holds, fault_holds, random_case, run_case};
 use crate::trouble::Trouble;
 use std::env;
+use std::process::ExitCode;
 
 const SEED: u64 = 20260;
 
@@ -126,10 +127,12 @@ fn run(rt: &HostRuntime) -> Result<(), Trouble> {
     run_floors(rt, seed, floors)
 }
 
-fn main(rt: HostRuntime) -> Result<(), Trouble> {
-    let outcome = run(&rt);
-    if let Err(trouble) = &outcome {
-        show_trouble(&rt, trouble)?;
+fn main(rt: HostRuntime) -> ExitCode {
+    match run(&rt) {
+        Ok(()) => ExitCode::SUCCESS,
+        Err(trouble) => {
+            let _ = show_trouble(&rt, &trouble);
+            ExitCode::FAILURE
+        }
     }
-    outcome
 }
