@@ -7,8 +7,8 @@ use Rattle.plan.proofs.bytes.leaving_in.Goals as goal
 pub returns-then-zone-file : goal.returns-then-zone-file
 returns-then-zone-file c = none_leaving _ (kept _ c.requires) c.args.zone c.args.from (omega arith)
 
-pub least-from-requires : goal.least-from-requires
-least-from-requires c =
+pub least_from-requires : goal.least_from-requires
+least_from-requires c =
     let k = kept c.args.file.now c.requires in
     let p = entry_ends c.args.file.now k c.args.zone (omega arith) in
     let q = end_fits c.args.file.now k c.args.zone (omega arith) in
@@ -17,7 +17,7 @@ least-from-requires c =
 pub returns : goal.returns
 returns c =
     let b = c.args.file.now in
-    let h = c.least-from.ensures in
-    let h2 = subst (λ (x : ℕ). LeastAmong b c.word-first.result x c.args.from c.least-from.result) c.until-end.ensures h in
-    least_leaving b (kept b c.requires) c.args.zone c.args.from c.least-from.result (omega arith)
-    (subst (λ (x : ℕ). LeastAmong b x (end_of b c.args.zone) c.args.from c.least-from.result) c.word-first.ensures h2)
+    let h = c.least_from.ensures in
+    let h2 = subst (λ (x : ℕ). LeastAmong b c.word-first.result x c.args.from c.least_from.result) c.until-end.ensures h in
+    least_leaving b (kept b c.requires) c.args.zone c.args.from c.least_from.result (omega arith)
+    (subst (λ (x : ℕ). LeastAmong b x (end_of b c.args.zone) c.args.from c.least_from.result) c.word-first.ensures h2)

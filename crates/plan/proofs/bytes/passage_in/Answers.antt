@@ -9,9 +9,9 @@ returns-then-body-gt255 c = at_none c.args.file.now (kept _ c.requires.0) c.args
 pub bounds-file-at : goal.bounds-file-at
 bounds-file-at c =
     let s = at_some c.args.file.now (kept _ c.requires.0) c.args.number _ (c.requires.1 c.args.number (omega arith)) c.if-body-gt255.false in
-    omega (arith, s.fits, c.body-place-at.ensures)
+    omega (arith, s.fits, c.body_place-at.ensures)
 
 pub bounds-file-at-2 : goal.bounds-file-at-2
 bounds-file-at-2 c =
     let s = at_some c.args.file.now (kept _ c.requires.0) c.args.number _ (c.requires.1 c.args.number (omega arith)) c.if-body-gt255.false in
-    omega (arith, s.fits, c.body-place-at.ensures)
+    omega (arith, s.fits, c.body_place-at.ensures)

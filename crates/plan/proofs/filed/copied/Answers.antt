@@ -9,4 +9,4 @@ fronted : (b x y : List ℕ) → x ≡ b → take (length b) (x ++ y) ≡ b
 fronted b x y e = ap (λ (v : List ℕ). take (length b) (v ++ y)) e ∙ front b y
 
 pub returns : goal.returns
-returns c = fronted c.args.bytes.now c.copy-from-slice.new.self _ c.copy-from-slice.ensures.after
+returns c = fronted c.args.bytes.now c.copy_from_slice.new.self _ c.copy_from_slice.ensures.after

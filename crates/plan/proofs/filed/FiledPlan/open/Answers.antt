@@ -7,11 +7,11 @@ use Rattle.plan.proofs.filed.FiledPlan.open.Goals as goal
 
 pub returns : goal.returns
 returns c =
-    let e = c.in-ok-check-file.ensures in
+    let e = c.in_ok-check_file.ensures in
     record { words = record { keeps = keeps_rules c.args.bytes.now e; describes = describes c.args.bytes.now _ _ c.copied.ensures }; computed = (e, c.copied.ensures) }
 
-pub returns-in-err-check-file : goal.returns-in-err-check-file
-returns-in-err-check-file c =
-    let p = err_from_is_err_and c.from-residual.result c.from-residual.ensures.1 in
-    let e = c.in-err-check-file.ensures in
+pub returns-in_err-check_file : goal.returns-in_err-check_file
+returns-in_err-check_file c =
+    let p = err_from_is_err_and c.from_residual.result c.from_residual.ensures.1 in
+    let e = c.in_err-check_file.ensures in
     rw (p.1, p.2) (record { words = first_fault c.args.bytes.now _ e; computed = sym (ap layered e) })

@@ -10,7 +10,7 @@ none_leaves None r z e f h = h
 
 pub loop-number-preserved : goal.loop-number-preserved
 loop-number-preserved c k l m h = ⊎_elim
-    (λ q. none_leaves (grid_passage c.args.self.now.rows c.args.self.now.columns c.loop-number.number) c.passage.result c.args.zone c.passage.ensures c.if-is-some.ensures
+    (λ q. none_leaves (grid_passage c.args.self.now.rows c.args.self.now.columns c.loop-number.number) c.passage.result c.args.zone c.passage.ensures c.if-is_some.ensures
     (subst (λ (j : ℕ). Leaves (grid_passage c.args.self.now.rows c.args.self.now.columns) c.args.zone j) q h))
     (λ q. c.loop-number.invariant k l q h)
     (eq-or-lt_of_le {n = k} {m = c.loop-number.number} (omega arith))

@@ -16,11 +16,11 @@ returns-in-Small c =
       token = (
         record {
           onward = omega arith;
-          spaces = c.run-end-place.ensures.all;
-          some = not_empty _ _ _ _ (omega arith) (omega arith) (sym c.in-Small.ensures) c.run-end-end.ensures.stops;
+          spaces = c.run_end-place.ensures.all;
+          some = not_empty _ _ _ _ (omega arith) (omega arith) (sym c.in-Small.ensures) c.run_end-end.ensures.stops;
           inside = omega arith;
-          run = c.run-end-end.ensures.all;
-          longest = c.run-end-end.ensures.stops;
+          run = c.run_end-end.ensures.all;
+          longest = c.run_end-end.ensures.stops;
         },
         refl,
       );
