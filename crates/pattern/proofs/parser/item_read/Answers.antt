@@ -14,5 +14,5 @@ returns-in-Atom c lo m h w = item_atom c.args.automaton.now c.in-Atom.f lo m w (
 pub returns-in-Item : goal.returns-in-Item
 returns-in-Item c lo m h w = item_item c.args.automaton.now c.in-Item.f lo m w (subst (λ (x : Mode). Last c.args.automaton.now lo x m) c.in-Item.is h)
 
-pub returns-in-default : goal.returns-in-default
-returns-in-default c lo m h w = (refl, item_none h c.in-default.not-Named c.in-default.not-Atom c.in-default.not-Item)
+pub returns-in_default : goal.returns-in_default
+returns-in_default c lo m h w = (refl, item_none h c.in_default.not-Named c.in_default.not-Atom c.in_default.not-Item)

@@ -7,15 +7,15 @@ use Rattle.pattern.specs.Parsing.{Last, is_atom}
 use Rattle.pattern.proofs.Parsers.{with_mode, last_due}
 use Rattle.pattern.proofs.parser.Parser.empty.Goals as goal
 
-pub returns-in-err-settle : goal.returns-in-err-settle
-returns-in-err-settle c n fs b q m h =
-    let p = err_from_is_err_and c.from-residual.result c.from-residual.ensures.1 in
-    let e = c.in-err-settle.ensures n fs b q m h in
+pub returns-in_err-settle : goal.returns-in_err-settle
+returns-in_err-settle c n fs b q m h =
+    let p = err_from_is_err_and c.from_residual.result c.from_residual.ensures.1 in
+    let e = c.in_err-settle.ensures n fs b q m h in
     rw (p.1, p.2, e.0) (refl, ap (machine.begun fs b (machine.atomed model.empty)) e.1)
 
 pub returns : goal.returns
 returns c n fs b q m h =
-    let (u, e, d, s) = c.in-ok-settle.ensures n fs b q m h in
+    let (u, e, d, s) = c.in_ok-settle.ensures n fs b q m h in
     let here = last_due s.last in
     record {
       levels = fs;

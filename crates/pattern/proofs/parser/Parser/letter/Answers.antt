@@ -5,8 +5,8 @@ use Rattle.pattern.specs.declared.parser.Mode.{Mode}
 use Rattle.pattern.proofs.Parsers.{no_letter, marked_room, marked_goes}
 use Rattle.pattern.proofs.parser.Parser.letter.Goals as goal
 
-pub returns-in-default : goal.returns-in-default
-returns-in-default c n fs b q m h = (refl, ap (machine.in_mode fs b q) (no_letter c.args.mark h.last c.in-default.not-Marking))
+pub returns-in_default : goal.returns-in_default
+returns-in_default c n fs b q m h = (refl, ap (machine.in_mode fs b q) (no_letter c.args.mark h.last c.in_default.not-Marking))
 
 pub name-requires : goal.name-requires
 name-requires c =

@@ -5,20 +5,20 @@ use Rattle.pattern.specs.Parsing.{Last, is_due, is_named}
 use Rattle.pattern.proofs.Parsers.{with_mode, some_none, last_due}
 use Rattle.pattern.proofs.parser.Parser.name.Goals as goal
 
-pub returns-in-err-settle : goal.returns-in-err-settle
-returns-in-err-settle c n fs b q m h =
-    let p = err_from_is_err_and c.from-residual.result c.from-residual.ensures.1 in
-    let e = c.in-err-settle.ensures n fs b q m h in
+pub returns-in_err-settle : goal.returns-in_err-settle
+returns-in_err-settle c n fs b q m h =
+    let p = err_from_is_err_and c.from_residual.result c.from_residual.ensures.1 in
+    let e = c.in_err-settle.ensures n fs b q m h in
     rw (p.1, p.2, e.0) (refl, ap (machine.begun fs b (machine.named c.args.label)) e.1)
 
 pub returns-then-self-ge-MOST : goal.returns-then-self-ge-MOST
 returns-then-self-ge-MOST c n fs b q m h =
-    let (u, e, d, s) = c.in-ok-settle.ensures n fs b q m h in
+    let (u, e, d, s) = c.in_ok-settle.ensures n fs b q m h in
     (refl, λ z. some_none (ap (machine.begun fs b (machine.named c.args.label)) e) z, c.args.label, refl, omega (arith, s.counted, s.few))
 
 pub returns : goal.returns
 returns c n fs b q m h =
-    let (u, e, d, s) = c.in-ok-settle.ensures n fs b q m h in
+    let (u, e, d, s) = c.in_ok-settle.ensures n fs b q m h in
     record {
       levels = fs;
       sequences = b;

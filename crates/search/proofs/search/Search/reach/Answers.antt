@@ -18,13 +18,13 @@ unfolding space_of
 returns-then-origin-here g c =
     let e = c.args.self.now in
     let r = c.args.route.now in
-    reach_read (g.R.Rule.meaning e.rule) e.automaton e.cursor.most (track_of r) (record { passage = c.args.passage; mark = c.args.mark }) _ c.in-Some.origin c.in-Some.zone c.in-Some.kind c.here.result c.mask.result c.step-mask.result r.len c.may-add.result true
-    (sym c.passage.ensures ∙ c.in-Some.is) c.here.ensures.track c.mask.ensures c.step-mask.ensures.value (sym (length_taken (taken_at r) r.len)) (c.may-add.ensures ∙ ap (λ (x : Route). (g.R.Rule.meaning e.rule).permits x c.args.passage c.in-Some.zone) (views_agree r)) c.if-origin-here.true
+    reach_read (g.R.Rule.meaning e.rule) e.automaton e.cursor.most (track_of r) (record { passage = c.args.passage; mark = c.args.mark }) _ c.in-Some.origin c.in-Some.zone c.in-Some.kind c.here.result c.mask.result c.step-mask.result r.len c.may_add.result true
+    (sym c.passage.ensures ∙ c.in-Some.is) c.here.ensures.track c.mask.ensures c.step-mask.ensures.value (sym (length_taken (taken_at r) r.len)) (c.may_add.ensures ∙ ap (λ (x : Route). (g.R.Rule.meaning e.rule).permits x c.args.passage c.in-Some.zone) (views_agree r)) c.if-origin-here.true
 
 pub returns-else-origin-here : goal.returns-else-origin-here
 unfolding space_of
 returns-else-origin-here g c =
     let e = c.args.self.now in
     let r = c.args.route.now in
-    reach_read (g.R.Rule.meaning e.rule) e.automaton e.cursor.most (track_of r) (record { passage = c.args.passage; mark = c.args.mark }) _ c.in-Some.origin c.in-Some.zone c.in-Some.kind c.here.result c.mask.result c.step-mask.result r.len c.may-add.result false
-    (sym c.passage.ensures ∙ c.in-Some.is) c.here.ensures.track c.mask.ensures c.step-mask.ensures.value (sym (length_taken (taken_at r) r.len)) (c.may-add.ensures ∙ ap (λ (x : Route). (g.R.Rule.meaning e.rule).permits x c.args.passage c.in-Some.zone) (views_agree r)) c.if-origin-here.false
+    reach_read (g.R.Rule.meaning e.rule) e.automaton e.cursor.most (track_of r) (record { passage = c.args.passage; mark = c.args.mark }) _ c.in-Some.origin c.in-Some.zone c.in-Some.kind c.here.result c.mask.result c.step-mask.result r.len c.may_add.result false
+    (sym c.passage.ensures ∙ c.in-Some.is) c.here.ensures.track c.mask.ensures c.step-mask.ensures.value (sym (length_taken (taken_at r) r.len)) (c.may_add.ensures ∙ ap (λ (x : Route). (g.R.Rule.meaning e.rule).permits x c.args.passage c.in-Some.zone) (views_agree r)) c.if-origin-here.false
