@@ -8,10 +8,10 @@ pub returns-in-Some : goal.returns-in-Some
 returns-in-Some g c = check_faulty _ _ (g.met.R.Rule.keeps c.args.self.now.search.rule) _ _ _ _ c.if-not-self.false c.in-Some.ensures
 
 pub walk-requires : goal.walk-requires
-walk-requires g c = formed_two _ c.in-default.ensures
+walk-requires g c = formed_two _ c.in_default.ensures
 
 pub returns-in-Some-walk : goal.returns-in-Some-walk
-returns-in-Some-walk g c = check_yes _ _ (g.met.R.Rule.keeps c.args.self.now.search.rule) _ _ _ _ c.if-not-self.false c.in-default.ensures c.in-Some-walk.ensures
+returns-in-Some-walk g c = check_yes _ _ (g.met.R.Rule.keeps c.args.self.now.search.rule) _ _ _ _ c.if-not-self.false c.in_default.ensures c.in-Some-walk.ensures
 
 pub returns-in-None : goal.returns-in-None
-returns-in-None g c = check_no _ _ (g.met.R.Rule.keeps c.args.self.now.search.rule) _ _ _ c.if-not-self.false c.in-default.ensures c.in-None.ensures
+returns-in-None g c = check_no _ _ (g.met.R.Rule.keeps c.args.self.now.search.rule) _ _ _ c.if-not-self.false c.in_default.ensures c.in-None.ensures

@@ -10,7 +10,7 @@ returns-then-advance g c =
     record {
       least = found (g.P.Plan.meaning c.args.self.now.search.plan) (g.R.Rule.meaning c.args.self.now.search.rule) (g.met.R.Rule.keeps c.args.self.now.search.rule) c.args.self.now.search.automaton c.args.start c.args.target c.loop-most.most c.new.result (track_of c.advance.new.self.cursor.route) c.new.ensures.0 c.new.ensures.1
           (told_same c.args.target c.loop-most.most _ _ _ _ (ap g.P.Plan.meaning i.0) (ap g.R.Rule.meaning i.1) i.2 k.told) i.4;
-      short = omega (arith, i.3, c.length-limit-limit.ensures);
+      short = omega (arith, i.3, c.length_limit-limit.ensures);
       same = (k.kept.0 ∙ i.0, (k.kept.1.0 ∙ i.1, k.kept.1.1.0 ∙ i.2));
     }
 
@@ -29,10 +29,10 @@ loop-most-preserved g c =
 pub returns : goal.returns
 returns g c =
     let i = c.loop-most.invariant in
-    let e : c.loop-most.most ≡ c.length-limit-limit.result = omega arith in
+    let e : c.loop-most.most ≡ c.length_limit-limit.result = omega arith in
     record {
-      least = all_tried (g.P.Plan.meaning c.args.self.now.search.plan) (g.R.Rule.meaning c.args.self.now.search.rule) (g.met.R.Rule.keeps c.args.self.now.search.rule) c.args.self.now.search.automaton c.args.start c.args.target c.length-limit-limit.result c.length-limit-limit.ensures
+      least = all_tried (g.P.Plan.meaning c.args.self.now.search.plan) (g.R.Rule.meaning c.args.self.now.search.rule) (g.met.R.Rule.keeps c.args.self.now.search.rule) c.args.self.now.search.automaton c.args.start c.args.target c.length_limit-limit.result c.length_limit-limit.ensures
           (λ t rec low b k. omega (arith, i.4 t rec low b k, e));
-      short = omega (arith, c.length-limit-limit.ensures);
+      short = omega (arith, c.length_limit-limit.ensures);
       same = (i.0, (i.1, i.2));
     }

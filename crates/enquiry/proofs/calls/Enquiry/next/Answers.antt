@@ -12,7 +12,7 @@ pub returns-then-advance : goal.returns-then-advance
 returns-then-advance g c =
     let k = c.if-advance.ensures in
     record {
-      relation = next_some _ _ (g.met.R.Rule.keeps c.args.self.now.search.rule) _ _ _ _ _ _ c.if-not-self.false c.if-buffer-lt770.false (k.asks.0 ∙ c.if-not-self.false) (k.some refl) k.kept.1.1.1.0 k.asks.1 k.kept.1.1.1.1 c.write-record-count.ensures.count c.write-record-count.ensures.wrote k.told;
+      relation = next_some _ _ (g.met.R.Rule.keeps c.args.self.now.search.rule) _ _ _ _ _ _ c.if-not-self.false c.if-buffer-lt770.false (k.asks.0 ∙ c.if-not-self.false) (k.some refl) k.kept.1.1.1.0 k.asks.1 k.kept.1.1.1.1 c.write_record-count.ensures.count c.write_record-count.ensures.wrote k.told;
       same = (k.kept.0, (k.kept.1.0, k.kept.1.1.0));
       refused = tt;
       forward = leads_on (g.P.Plan.meaning c.args.self.now.search.plan) (g.R.Rule.meaning c.args.self.now.search.rule) c.args.self.now.search.automaton c.args.self.now.search.cursor c.advance.new.self.cursor (k.some refl) k.kept.1.1.1.0 k.kept.1.1.1.1 k.told;

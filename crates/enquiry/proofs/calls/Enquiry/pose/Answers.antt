@@ -23,13 +23,13 @@ returns g c =
     record {
       relation = pose_accepted _ _ (g.met.R.Rule.keeps c.args.self.now.search.rule) _ _ _ _ _ _ low (omega arith) refl refl c.new.ensures.1 c.new.ensures.0 refl refl
           (elim c.match-choice.branch [
-            | in-All w ↦ cap_all pl ru c.args.self.now.search.automaton _ _ _ _ w.in-All.is (w.most-is ∙ w.length-limit-most.ensures)
-            | in-Shortest w ↦ cap_short pl ru c.args.self.now.search.automaton _ _ _ _ _ w.in-Shortest.is w.most-is low w.least-length-most.ensures.least
+            | in-All w ↦ cap_all pl ru c.args.self.now.search.automaton _ _ _ _ w.in-All.is (w.most-is ∙ w.length_limit-most.ensures)
+            | in-Shortest w ↦ cap_short pl ru c.args.self.now.search.automaton _ _ _ _ _ w.in-Shortest.is w.most-is low w.least_length-most.ensures.least
           ]);
       same = elim c.match-choice.branch [
         | in-All w ↦ (ap (λ (x : Enquiry _ _). x.search.plan) w.self-is, (ap (λ (x : Enquiry _ _). x.search.rule) w.self-is, ap (λ (x : Enquiry _ _). x.search.automaton) w.self-is))
         | in-Shortest w ↦
-            let k = w.least-length-most.ensures.same in
+            let k = w.least_length-most.ensures.same in
             (ap (λ (x : Enquiry _ _). x.search.plan) w.self-is ∙ k.0, (ap (λ (x : Enquiry _ _). x.search.rule) w.self-is ∙ k.1.0, ap (λ (x : Enquiry _ _). x.search.automaton) w.self-is ∙ k.1.1))
       ];
       refused = tt;

@@ -9,10 +9,10 @@ pub returns-in-Some : goal.returns-in-Some
 returns-in-Some g c = record { relation = resume_faulty _ _ (g.met.R.Rule.keeps c.args.self.now.search.rule) _ _ _ _ c.if-not-self.false c.in-Some.ensures; same = (refl, (refl, refl)); refused = refl }
 
 pub walk-requires : goal.walk-requires
-walk-requires g c = formed_two _ c.in-default.ensures
+walk-requires g c = formed_two _ c.in_default.ensures
 
-pub returns-in-default-walk : goal.returns-in-default-walk
-returns-in-default-walk g c = record { relation = resume_none _ _ (g.met.R.Rule.keeps c.args.self.now.search.rule) _ _ _ c.if-not-self.false c.in-default.ensures c.in-default-walk.ensures; same = (refl, (refl, refl)); refused = refl }
+pub returns-in_default-walk : goal.returns-in_default-walk
+returns-in_default-walk g c = record { relation = resume_none _ _ (g.met.R.Rule.keeps c.args.self.now.search.rule) _ _ _ c.if-not-self.false c.in_default.ensures c.in_default-walk.ensures; same = (refl, (refl, refl)); refused = refl }
 
 pub returns : goal.returns
-returns g c = record { relation = resume_some _ _ (g.met.R.Rule.keeps c.args.self.now.search.rule) _ _ _ _ c.if-not-self.false c.in-default.ensures c.in-Some-walk.ensures c.if-not-self.false refl refl refl refl; same = (refl, (refl, refl)); refused = tt }
+returns g c = record { relation = resume_some _ _ (g.met.R.Rule.keeps c.args.self.now.search.rule) _ _ _ _ c.if-not-self.false c.in_default.ensures c.in-Some-walk.ensures c.if-not-self.false refl refl refl refl; same = (refl, (refl, refl)); refused = tt }

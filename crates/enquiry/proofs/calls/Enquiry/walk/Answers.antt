@@ -14,4 +14,4 @@ pub loop-i-preserved : goal.loop-i-preserved
 loop-i-preserved g c = goes_on _ _ _ _ _ _ _ _ _ c.loop-i.i (omega arith) (omega arith) c.loop-i.invariant c.if-not-tread.ensures
 
 pub returns : goal.returns
-returns g c = no_end _ _ _ _ _ _ _ _ c.loop-i.i (omega arith) c.loop-i.invariant (λ e. clash (sym c.if-is-answer.false ∙ c.is_answer.ensures ∙ e))
+returns g c = no_end _ _ _ _ _ _ _ _ c.loop-i.i (omega arith) c.loop-i.invariant (λ e. clash (sym c.if-is_answer.false ∙ c.is_answer.ensures ∙ e))
