@@ -5,20 +5,20 @@ use Rattle.listing.proofs.compare.agree.Goals as goal
 pub loop-n-init : goal.loop-n-init
 loop-n-init g c = (refl, refl, refl, refl, refl, refl, c.requires, beside_start (g.P.Plan.meaning c.args.left.now.search.plan) (g.R.Rule.meaning c.args.left.now.search.rule) c.args.left.now.search.automaton c.args.left.now.search.cursor (g.Q.Plan.meaning c.args.right.now.search.plan) (g.S.Rule.meaning c.args.right.now.search.rule) c.args.right.now.search.automaton c.args.right.now.search.cursor, refl, refl)
 
-pub returns-in-default-following : goal.returns-in-default-following
-returns-in-default-following g c =
+pub returns-in_default-following : goal.returns-in_default-following
+returns-in_default-following g c =
     let i = c.loop-n.invariant in
     listed_left (g.P.Plan.meaning c.args.left.now.search.plan) (g.R.Rule.meaning c.args.left.now.search.rule) (g.met.R.Rule.keeps c.args.left.now.search.rule) c.args.left.now.search.automaton c.args.left.now.search.cursor (g.Q.Plan.meaning c.args.right.now.search.plan) (g.S.Rule.meaning c.args.right.now.search.rule) (g.met.S.Rule.keeps c.args.right.now.search.rule) c.args.right.now.search.automaton c.args.right.now.search.cursor c.loop-n.left.search.cursor c.loop-n.right.search.cursor i.7 c.following.new.enquiry.search.cursor c.following-in-Some.new.enquiry.search.cursor c.following.new.buffer c.following-in-Some.new.buffer c.in-Some.n
     (steps_at c.loop-n.left.search.cursor c.following.new.enquiry.search.cursor (Some c.in-Some.n) c.following.new.buffer (ap g.P.Plan.meaning i.0) (ap g.R.Rule.meaning i.1) i.2 c.in-Some.ensures.step)
-    (steps_at c.loop-n.right.search.cursor c.following-in-Some.new.enquiry.search.cursor None c.following-in-Some.new.buffer (ap g.Q.Plan.meaning i.3) (ap g.S.Rule.meaning i.4) i.5 c.in-default-following.ensures.step)
+    (steps_at c.loop-n.right.search.cursor c.following-in-Some.new.enquiry.search.cursor None c.following-in-Some.new.buffer (ap g.Q.Plan.meaning i.3) (ap g.S.Rule.meaning i.4) i.5 c.in_default-following.ensures.step)
 
-pub returns-then-not-same-record : goal.returns-then-not-same-record
-returns-then-not-same-record g c =
+pub returns-then-not-same_record : goal.returns-then-not-same_record
+returns-then-not-same_record g c =
     let i = c.loop-n.invariant in
     listed_differ (g.P.Plan.meaning c.args.left.now.search.plan) (g.R.Rule.meaning c.args.left.now.search.rule) (g.met.R.Rule.keeps c.args.left.now.search.rule) c.args.left.now.search.automaton c.args.left.now.search.cursor (g.Q.Plan.meaning c.args.right.now.search.plan) (g.S.Rule.meaning c.args.right.now.search.rule) (g.met.S.Rule.keeps c.args.right.now.search.rule) c.args.right.now.search.automaton c.args.right.now.search.cursor c.loop-n.left.search.cursor c.loop-n.right.search.cursor i.7 c.following.new.enquiry.search.cursor c.following-in-Some.new.enquiry.search.cursor c.following.new.buffer c.following-in-Some.new.buffer c.in-Some.n c.in-Some-following.m
     (steps_at c.loop-n.left.search.cursor c.following.new.enquiry.search.cursor (Some c.in-Some.n) c.following.new.buffer (ap g.P.Plan.meaning i.0) (ap g.R.Rule.meaning i.1) i.2 c.in-Some.ensures.step)
     (steps_at c.loop-n.right.search.cursor c.following-in-Some.new.enquiry.search.cursor (Some c.in-Some-following.m) c.following-in-Some.new.buffer (ap g.Q.Plan.meaning i.3) (ap g.S.Rule.meaning i.4) i.5 c.in-Some-following.ensures.step)
-    c.if-not-same-record.ensures
+    c.if-not-same_record.ensures
 
 pub loop-n-smaller : goal.loop-n-smaller
 loop-n-smaller g c =
@@ -40,7 +40,7 @@ loop-n-preserved g c =
       beside_on (g.P.Plan.meaning c.args.left.now.search.plan) (g.R.Rule.meaning c.args.left.now.search.rule) (g.met.R.Rule.keeps c.args.left.now.search.rule) c.args.left.now.search.automaton c.args.left.now.search.cursor (g.Q.Plan.meaning c.args.right.now.search.plan) (g.S.Rule.meaning c.args.right.now.search.rule) (g.met.S.Rule.keeps c.args.right.now.search.rule) c.args.right.now.search.automaton c.args.right.now.search.cursor c.loop-n.left.search.cursor c.loop-n.right.search.cursor i.7 c.following.new.enquiry.search.cursor c.following-in-Some.new.enquiry.search.cursor c.following.new.buffer c.following-in-Some.new.buffer c.in-Some.n c.in-Some-following.m
           (steps_at c.loop-n.left.search.cursor c.following.new.enquiry.search.cursor (Some c.in-Some.n) c.following.new.buffer (ap g.P.Plan.meaning i.0) (ap g.R.Rule.meaning i.1) i.2 c.in-Some.ensures.step)
           (steps_at c.loop-n.right.search.cursor c.following-in-Some.new.enquiry.search.cursor (Some c.in-Some-following.m) c.following-in-Some.new.buffer (ap g.Q.Plan.meaning i.3) (ap g.S.Rule.meaning i.4) i.5 c.in-Some-following.ensures.step)
-          c.following.array_long c.following-in-Some.array_long c.if-not-same-record.ensures,
+          c.following.array_long c.following-in-Some.array_long c.if-not-same_record.ensures,
       c.following.array_long,
       c.following-in-Some.array_long,
     )
@@ -49,12 +49,12 @@ pub returns-in-Some-following-2 : goal.returns-in-Some-following-2
 returns-in-Some-following-2 g c =
     let i = c.loop-n.invariant in
     listed_right (g.P.Plan.meaning c.args.left.now.search.plan) (g.R.Rule.meaning c.args.left.now.search.rule) (g.met.R.Rule.keeps c.args.left.now.search.rule) c.args.left.now.search.automaton c.args.left.now.search.cursor (g.Q.Plan.meaning c.args.right.now.search.plan) (g.S.Rule.meaning c.args.right.now.search.rule) (g.met.S.Rule.keeps c.args.right.now.search.rule) c.args.right.now.search.automaton c.args.right.now.search.cursor c.loop-n.left.search.cursor c.loop-n.right.search.cursor i.7 c.following.new.enquiry.search.cursor c.following-2.new.enquiry.search.cursor c.following.new.buffer c.following-2.new.buffer c.in-Some-following-2.field-0
-    (steps_at c.loop-n.left.search.cursor c.following.new.enquiry.search.cursor None c.following.new.buffer (ap g.P.Plan.meaning i.0) (ap g.R.Rule.meaning i.1) i.2 c.in-default.ensures.step)
+    (steps_at c.loop-n.left.search.cursor c.following.new.enquiry.search.cursor None c.following.new.buffer (ap g.P.Plan.meaning i.0) (ap g.R.Rule.meaning i.1) i.2 c.in_default.ensures.step)
     (steps_at c.loop-n.right.search.cursor c.following-2.new.enquiry.search.cursor (Some c.in-Some-following-2.field-0) c.following-2.new.buffer (ap g.Q.Plan.meaning i.3) (ap g.S.Rule.meaning i.4) i.5 c.in-Some-following-2.ensures.step)
 
 pub returns-in-None : goal.returns-in-None
 returns-in-None g c =
     let i = c.loop-n.invariant in
     listed_same (g.P.Plan.meaning c.args.left.now.search.plan) (g.R.Rule.meaning c.args.left.now.search.rule) (g.met.R.Rule.keeps c.args.left.now.search.rule) c.args.left.now.search.automaton c.args.left.now.search.cursor (g.Q.Plan.meaning c.args.right.now.search.plan) (g.S.Rule.meaning c.args.right.now.search.rule) (g.met.S.Rule.keeps c.args.right.now.search.rule) c.args.right.now.search.automaton c.args.right.now.search.cursor c.loop-n.left.search.cursor c.loop-n.right.search.cursor i.7 c.following.new.enquiry.search.cursor c.following-2.new.enquiry.search.cursor c.following.new.buffer c.following-2.new.buffer
-    (steps_at c.loop-n.left.search.cursor c.following.new.enquiry.search.cursor None c.following.new.buffer (ap g.P.Plan.meaning i.0) (ap g.R.Rule.meaning i.1) i.2 c.in-default.ensures.step)
+    (steps_at c.loop-n.left.search.cursor c.following.new.enquiry.search.cursor None c.following.new.buffer (ap g.P.Plan.meaning i.0) (ap g.R.Rule.meaning i.1) i.2 c.in_default.ensures.step)
     (steps_at c.loop-n.right.search.cursor c.following-2.new.enquiry.search.cursor None c.following-2.new.buffer (ap g.Q.Plan.meaning i.3) (ap g.S.Rule.meaning i.4) i.5 c.in-None.ensures.step)

@@ -10,14 +10,14 @@ returns-in-Pose g c = record { told = performs _ _ _ _ _ c.args.call _ (pose _ _
 
 pub returns-in-Next : goal.returns-in-Next
 returns-in-Next g c =
-    let e : length c.next-outcome.new.buffer ≡ c.in-Next.words.len = omega (arith, c.next-outcome.auto.buffer, c.as-mut-slice.ensures.len) in
-    record { told = performs _ _ _ _ _ c.args.call _ (next _ _ _) (ap next_call c.as-mut-slice.ensures.value ∙ sym (ap call_of c.in-Next.is)) (ap (next_told c.next-outcome.result) (sym (whole_taken c.in-Next.words.len c.next-outcome.new.buffer _ e))) c.next-outcome.ensures.relation; same = c.next-outcome.ensures.same }
+    let e : length c.next-outcome.new.buffer ≡ c.in-Next.words.len = omega (arith, c.next-outcome.auto.buffer, c.as_mut_slice.ensures.len) in
+    record { told = performs _ _ _ _ _ c.args.call _ (next _ _ _) (ap next_call c.as_mut_slice.ensures.value ∙ sym (ap call_of c.in-Next.is)) (ap (next_told c.next-outcome.result) (sym (whole_taken c.in-Next.words.len c.next-outcome.new.buffer _ e))) c.next-outcome.ensures.relation; same = c.next-outcome.ensures.same }
 
 pub returns-in-Again : goal.returns-in-Again
 returns-in-Again g c = record { told = performs _ _ _ _ _ c.args.call _ (again _) (sym (ap call_of c.in-Again.is)) refl c.again.ensures.relation; same = c.again.ensures.same }
 
 pub returns-in-Check : goal.returns-in-Check
-returns-in-Check g c = record { told = performs _ _ _ _ _ c.args.call _ (check _ _) (ap check_call c.as-slice.ensures.value ∙ sym (ap call_of c.in-Check.is)) refl c.check.ensures; same = (refl, (refl, refl)) }
+returns-in-Check g c = record { told = performs _ _ _ _ _ c.args.call _ (check _ _) (ap check_call c.as_slice.ensures.value ∙ sym (ap call_of c.in-Check.is)) refl c.check.ensures; same = (refl, (refl, refl)) }
 
 pub returns-in-Resume : goal.returns-in-Resume
-returns-in-Resume g c = record { told = performs _ _ _ _ _ c.args.call _ (resume _ _) (ap resume_call c.as-slice-in-Resume.ensures.value ∙ sym (ap call_of c.in-Resume.is)) refl c.resume.ensures.relation; same = c.resume.ensures.same }
+returns-in-Resume g c = record { told = performs _ _ _ _ _ c.args.call _ (resume _ _) (ap resume_call c.as_slice-in-Resume.ensures.value ∙ sym (ap call_of c.in-Resume.is)) refl c.resume.ensures.relation; same = c.resume.ensures.same }

@@ -15,7 +15,7 @@ loop-call-preserved g c =
       k.same.0 ∙ i.0,
       k.same.1.0 ∙ i.1,
       k.same.1.1 ∙ i.2,
-      more_calls _ _ c.loop-call.yielded (vec_items c.loop-call.replies) (vec_items c.push.new.self) c.in-Some.call c.perform.result (ap g.P.Plan.meaning i.0) (ap g.R.Rule.meaning i.1) i.2 k.told c.in-ok-push.ensures.items i.3,
+      more_calls _ _ c.loop-call.yielded (vec_items c.loop-call.replies) (vec_items c.push.new.self) c.in-Some.call c.perform.result (ap g.P.Plan.meaning i.0) (ap g.R.Rule.meaning i.1) i.2 k.told c.in_ok-push.ensures.items i.3,
       append_assoc c.loop-call.yielded (c.in-Some.call ∷ []) _ ∙ ap (λ (x : List Call). c.loop-call.yielded ++ x) (sym c.in-Some.ensures.steps.0) ∙ i.4,
     )
 
@@ -23,4 +23,4 @@ pub returns : goal.returns
 returns g c =
     let i = c.loop-call.invariant in
     let k = c.new-enquiry.ensures.holds in
-    all_replayed (g.met.R.Rule.keeps c.new-enquiry.result.search.rule) _ c.loop-call.yielded (vec_items c.args.calls) (vec_items c.loop-call.replies) (ap g.P.Plan.meaning k.0) (ap g.R.Rule.meaning k.1.0) k.1.1 (sym (append-nil c.loop-call.yielded) ∙ ap (λ (x : List Call). c.loop-call.yielded ++ x) (none_of (into_iter_items c.loop-call.call-iterator) (sym c.loop-call.call-iterator.rest.ok.0 ∙ c.in-None.ensures.steps.0)) ∙ i.4 ∙ c.into-iter-call-iterator.ensures.into-iter-gives.0) i.3
+    all_replayed (g.met.R.Rule.keeps c.new-enquiry.result.search.rule) _ c.loop-call.yielded (vec_items c.args.calls) (vec_items c.loop-call.replies) (ap g.P.Plan.meaning k.0) (ap g.R.Rule.meaning k.1.0) k.1.1 (sym (append-nil c.loop-call.yielded) ∙ ap (λ (x : List Call). c.loop-call.yielded ++ x) (none_of (into_iter_items c.loop-call.call-iterator) (sym c.loop-call.call-iterator.rest.ok.0 ∙ c.in-None.ensures.steps.0)) ∙ i.4 ∙ c.into_iter-call-iterator.ensures.into_iter_gives.0) i.3
