@@ -1,19 +1,17 @@
 -- The combinators on tables and fragments, against the theory.
-use Rattle.std.proofs.Common.{◌≡◌, ℕ, zero, suc, ◌+◌, ◌^◌, ◌<◌, ◌≤◌, Bool, true, false, not, eqb, ◌≢◌, ◌⊎◌, ◌↔◌, List, [], ◌∷◌, ◌++◌, length, get_or, take, set, replicate, Option, sym, refl, ap, ◌∙◌, subst, inl, inr, arith, get_or-set_other, get_or-set_same, ne_eqb}
+use Rattle.std.proofs.Common.{◌≡◌, ℕ, zero, suc, ◌+◌, ◌^◌, ◌<◌, ◌≤◌, true, false, ◌≢◌, ◌⊎◌, ◌↔◌, List, [], ◌∷◌, length, get_or, set, replicate, Option, sym, refl, ◌∙◌, subst, inl, inr, arith, get_or-set_other, get_or-set_same}
 use Rattle.bits.specs.Bit.{Has}
 use Rattle.model.specs.Patterns.{Tree, name, empty, ◌then◌, ◌or◌, star, plus, maybe, Fits}
 use Rattle.model.specs.Patterns.{Letter}
 use Rattle.model.specs.Records.{mark_word}
-use Rattle.automaton.specs.Readings.{Pair, Word, Reads}
-use Rattle.automaton.specs.Run.{Set, Edges, Run, Frag, Accept, In, Means, Same, then_frag, or_frag, star_frag, Stepped}
-use Rattle.automaton.specs.Tables.{edges, at, frag, Compiled, Extends, Built, FitAt, Within, Recognises, Holds, Moves, Accepted, start}
+use Rattle.automaton.specs.Readings.{Pair, Reads}
+use Rattle.automaton.specs.Run.{In, Same, then_frag, or_frag, star_frag}
+use Rattle.automaton.specs.Tables.{edges, at, frag, Compiled, Extends, Built, FitAt, Within, Recognises}
 use Rattle.automaton.specs.declared.Automaton.{Automaton}
 use Rattle.automaton.specs.declared.Fragment.{Fragment}
-use Rattle.automaton.proofs.Glushkov.{move, means_seq, means_alt, means_star, means_plus, means_opt, means_name, means_empty, reword, recognised, started, stepped_snoc}
-use Rattle.bits.proofs.Bit.{has_one, has_or, has_zero, meet}
-use borrow.Author.Tests.{eqb-false, not-true}
-use Rattle.std.proofs.lemmas.List.{take_more, take_all}
-use lib.Bits.{bit_and, bit_or}
+use Rattle.automaton.proofs.Glushkov.{move, means_seq, means_alt, means_star, means_plus, means_opt, means_name, means_empty, reword, recognised, started}
+use Rattle.bits.proofs.Bit.{has_one, has_or, has_zero}
+use lib.Bits.{bit_or}
 use Rattle.model.specs.declared.Label.{Label}
 
 flip : {A B : Type 0} → A ↔ B → B ↔ A

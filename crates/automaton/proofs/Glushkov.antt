@@ -1,4 +1,4 @@
-use Rattle.std.proofs.Common.{◌≡◌, ℕ, suc, ◌+◌, ◌<◌, ◌≤◌, ◌⊎◌, ◌↔◌, List, [], ◌∷◌, ◌++◌, sym, refl, ap, ◌∙◌, subst, inl, inr, arith}
+use Rattle.std.proofs.Common.{◌≡◌, ℕ, ◌+◌, ◌<◌, ◌≤◌, ◌⊎◌, ◌↔◌, List, [], ◌∷◌, ◌++◌, sym, refl, ap, subst, inl, inr, arith}
 use native.Mathlib.Decide.{dec_lt}
 use Rattle.automaton.specs.Readings.{Many, none, more, Chained}
 use Rattle.automaton.specs.Run.{Set, Edges, Run, Frag, Accept, In, Means, Stepped}

@@ -1,9 +1,9 @@
 -- The loops over the bits of a mask.
-use Rattle.std.proofs.Common.{◌≡◌, ℕ, zero, suc, ◌+◌, ◌/◌, ◌%◌, ◌^◌, ◌<◌, ◌≤◌, ◌≢◌, ◌⊎◌, ◌↔◌, List, length, get_or, set, sym, refl, ap, ◌∙◌, subst, inl, inr, arith, get_or-set_other, get_or-set_same}
+use Rattle.std.proofs.Common.{◌≡◌, ℕ, ◌+◌, ◌/◌, ◌^◌, ◌<◌, ◌≢◌, ◌⊎◌, ◌↔◌, List, length, get_or, set, sym, refl, ◌∙◌, subst, inl, inr, arith, get_or-set_other, get_or-set_same}
 use native.Mathlib.Decide.{dec_lt, ℕ_discrete}
 use lib.Bits.{bit_and, bit_or}
 use Rattle.bits.specs.Bit.{Has}
-use Rattle.bits.proofs.Bit.{has_or, has_and, has_zero, has_one, test_bit}
+use Rattle.bits.proofs.Bit.{has_or, has_zero, has_one, test_bit}
 
 -- the union of the rows below i that the mask has
 abbrev pub Below : List ℕ → ℕ → ℕ → ℕ → Type 0

@@ -5,9 +5,8 @@ use native.Mathlib.Omega.{arith}
 use native.Mathlib.Decide.{dec_lt}
 use native.Mathlib.Nat.{div-eq_of_lt, lt_of_lt_of_le, one-mul, pow-suc, mul-mod_left, mod-lt, zero-mul}
 use lib.Pow.{pow_pos, pow_mono, pow-lt, pow-add, shl-shr, shr_lt, split}
-use lib.Bits.{bit_and, bit_or, and_step, or_step, and_shr, or_shr, and_mask, and_le_l}
+use lib.Bits.{bit_and, bit_or, and_step, or_step, and_shr, or_shr, and_mask}
 use mathlib.Core.Bool.{Bool, true, false}
-use lib.Dec.{eqb}
 use borrow.Author.Tests.{eqb-true, eq-eqb}
 use Rattle.bits.specs.Bit.{Has, has_bit}
 

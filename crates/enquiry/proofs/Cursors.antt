@@ -1,14 +1,14 @@
 -- What each call promises, over the cursors before and after it.
-use Rattle.std.proofs.Common.{◌≡◌, ℕ, ◌+◌, ◌*◌, ◌<◌, ◌≤◌, Bool, true, false, List, [], ◌∷◌, ◌++◌, length, drop, Some, None, Ok, Err, sym, refl, ap, ◌∙◌, subst, ap₂, arith}
+use Rattle.std.proofs.Common.{◌≡◌, ℕ, ◌+◌, ◌*◌, ◌<◌, ◌≤◌, Bool, true, false, List, ◌++◌, length, drop, Some, None, Ok, Err, sym, ap, ◌∙◌, subst, arith}
 use borrow.Author.Tests.{clash}
 use Rattle.fault.specs.declared.Fault.TheVariants.{Enquiry}
-use Rattle.fault.specs.declared.EnquiryFault.TheVariants.{Start, Target, Buffer, Malformed, NotAnswer, Unposed}
+use Rattle.fault.specs.declared.EnquiryFault.TheVariants.{Start, Target, Buffer, Unposed}
 use Rattle.model.specs.Plans.{PlanMeaning}
 use Rattle.model.specs.Rules.{RuleMeaning, KeepsLaws}
 use Rattle.model.specs.Patterns.{Tree}
 use Rattle.model.specs.Questions.{EnquiryMeaning, Question}
 use Rattle.model.specs.Records.{rec_words}
-use Rattle.model.specs.Calls.{State, unposed, posed, Standing, at_front, behind, Again, Pose, Next}
+use Rattle.model.specs.Calls.{State, unposed, posed, at_front, behind, Again, Pose, Next}
 use Rattle.model.specs.Calls.Again.{again_unposed, goes_back}
 use Rattle.model.specs.Calls.Pose.{no_start, no_target, poses}
 use Rattle.model.specs.Calls.Next.{next_unposed, no_room, none_left, delivers}
@@ -17,9 +17,8 @@ use Rattle.automaton.specs.declared.Automaton.{Automaton}
 use Rattle.model.specs.declared.Choice.{Choice}
 use Rattle.model.specs.declared.Choice.TheVariants.{All, Shortest}
 use Rattle.search.specs.declared.cursor.Cursor.{Cursor}
-use Rattle.route.specs.declared.Route.{Route}
 use Rattle.route.specs.Reading.{track_of, taken_at, taken_of}
-use Rattle.route.specs.Tracks.{Track, Taken}
+use Rattle.route.specs.Tracks.{Track}
 use Rattle.search.specs.Spaces as tr
 use Rattle.search.specs.Listings as li
 use Rattle.search.specs.Listings.{StandingOn, route_at, Delivered, Delivers, codes_of}

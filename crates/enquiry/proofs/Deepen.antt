@@ -1,18 +1,18 @@
 -- The least length, by searches under growing caps.
-use Rattle.std.proofs.Common.{◌≡◌, ℕ, suc, ◌+◌, ◌<◌, ◌≤◌, Bool, true, false, List, [], ◌∷◌, sym, refl, ap, ◌∙◌, subst, ap₂, arith}
+use Rattle.std.proofs.Common.{◌≡◌, ℕ, ◌+◌, ◌<◌, ◌≤◌, Bool, true, false, [], subst, arith}
 use native.Mathlib.Decide.{dec_lt}
 use Rattle.model.specs.Plans.{PlanMeaning}
 use Rattle.model.specs.Routes.{len}
 use Rattle.model.specs.Rules.{RuleMeaning, KeepsLaws}
 use Rattle.model.specs.Patterns.{Tree}
 use Rattle.model.specs.Records.{Answer, record_of}
-use Rattle.model.specs.Questions.{EnquiryMeaning, Question, Candidate}
+use Rattle.model.specs.Questions.{Question, Candidate}
 use Rattle.automaton.specs.Tables.{Recognises}
 use Rattle.automaton.specs.declared.Automaton.{Automaton}
 use Rattle.model.specs.declared.Choice.TheVariants.{Shortest}
 use Rattle.route.specs.declared.Route.{Route}
-use Rattle.route.specs.Reading.{track_of, taken_at, taken_of}
-use Rattle.route.specs.Tracks.{Track, Taken}
+use Rattle.route.specs.Reading.{track_of, taken_at}
+use Rattle.route.specs.Tracks.{Track}
 use Rattle.search.specs.Spaces as tr
 use Rattle.search.specs.Listings as li
 use Rattle.search.specs.Listings.{StandingOn, route_at, Delivered}

@@ -1,18 +1,18 @@
 -- From what the search delivers to what next is to deliver.
-use Rattle.std.proofs.Common.{◌≡◌, ℕ, suc, ◌+◌, ◌*◌, ◌<◌, ◌≤◌, Bool, true, false, ◌⊎◌, List, [], ◌∷◌, ◌++◌, map, length, drop, Some, sym, refl, ap, ◌∙◌, subst, ap₂, inl, inr, ⊎_elim, arith}
+use Rattle.std.proofs.Common.{◌≡◌, ℕ, suc, ◌+◌, ◌*◌, ◌<◌, ◌≤◌, Bool, true, false, List, [], ◌∷◌, ◌++◌, map, length, Some, sym, refl, ap, ◌∙◌, subst, ap₂, inl, inr, ⊎_elim, arith}
 use Rattle.model.specs.Routes.{len}
-use Rattle.model.specs.Records.{Line, Record, Answer, answer_of, record_of, step_of, mark_word, line_words, words, Lower, Level, Earlier, Before}
+use Rattle.model.specs.Records.{Line, Record, Answer, record_of, step_of, mark_word, line_words, words, Earlier, Before}
 use Rattle.model.specs.Questions.{EnquiryMeaning, Question, Candidate, Chosen, IsAnswer, Lawful}
 use Rattle.model.specs.Records.{rec_words}
 use Rattle.model.specs.Calls.{After, First, Left, Holds}
 use Rattle.model.proofs.Answers.{is_trail, total}
-use Rattle.model.proofs.Distinct.{Distinct, distinct, record_of_answer_of}
+use Rattle.model.proofs.Distinct.{distinct, record_of_answer_of}
 use Rattle.automaton.specs.Tables.{Recognises}
 use Rattle.automaton.specs.declared.Automaton.{Automaton}
 use Rattle.route.specs.Tracks.{Track, Taken}
 use Rattle.search.specs.Spaces as t
 use Rattle.search.specs.Hunts.{space_of}
-use Rattle.search.specs.Listings.{Standing, StandingOn, route_at, code_of, codes_on, codes_of, ToCome, Delivers}
+use Rattle.search.specs.Listings.{Standing, StandingOn, route_at, code_of, codes_on, codes_of, ToCome}
 use Rattle.model.specs.declared.Choice.{Choice}
 use Rattle.model.specs.declared.Choice.TheVariants.{All, Shortest}
 use Rattle.search.proofs.Follow.{answer_to}
@@ -20,8 +20,8 @@ use Rattle.bridge.specs.Lines.{told, told_record, told_line, told_lines, line_co
 use Rattle.search.specs.Hunts.{space_of}
 use Rattle.model.specs.Records.{letter}
 use Rattle.bridge.specs.Statement.{Agree}
-use Rattle.bridge.proofs.Agreed.{answers_agree, lined, Lined}
-use Rattle.bridge.proofs.Walk.{admitted, Admitted, word_letter}
+use Rattle.bridge.proofs.Agreed.{answers_agree, lined}
+use Rattle.bridge.proofs.Walk.{admitted, word_letter}
 use Rattle.bridge.specs.Ahead.{From}
 use Rattle.enquiry.specs.Records.{words_on, record_on}
 use Rattle.enquiry.specs.Promises.{standing_of, Capped}

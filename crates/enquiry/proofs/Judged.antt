@@ -1,15 +1,15 @@
 -- What check and resume promise.
-use Rattle.std.proofs.Common.{◌≡◌, ℕ, ◌+◌, ◌*◌, ◌<◌, ◌≤◌, Bool, true, false, List, [], ◌∷◌, ◌++◌, length, get_or, Some, None, Ok, Err, sym, refl, ap, ◌∙◌, subst, ap₂, arith}
+use Rattle.std.proofs.Common.{◌≡◌, ℕ, ◌+◌, ◌*◌, ◌<◌, ◌≤◌, true, false, List, length, get_or, Ok, Err, sym, ap, ◌∙◌, subst, arith}
 use native.Mathlib.Decide.{dec_lt}
 use Rattle.fault.specs.declared.Fault.TheVariants.{Enquiry}
-use Rattle.fault.specs.declared.EnquiryFault.TheVariants.{Start, Target, Buffer, Malformed, NotAnswer, Unposed}
+use Rattle.fault.specs.declared.EnquiryFault.TheVariants.{Malformed, NotAnswer, Unposed}
 use Rattle.model.specs.Plans.{PlanMeaning}
 use Rattle.model.specs.Rules.{RuleMeaning, KeepsLaws}
 use Rattle.model.specs.Patterns.{Tree}
 use Rattle.model.specs.Records.{Answer}
-use Rattle.model.specs.Questions.{EnquiryMeaning, Question, IsAnswer}
+use Rattle.model.specs.Questions.{EnquiryMeaning, IsAnswer}
 use Rattle.model.specs.Calls.{State, posed, behind, MalformedAt, WellFormed, Holds, Check, Resume}
-use Rattle.model.specs.Calls.MalformedAt.{under_two, over_256, too_few, mark_over_8}
+use Rattle.model.specs.Calls.MalformedAt.{under_two, over_256, too_few}
 use Rattle.model.specs.Calls.Check.{check_unposed, check_malformed, says_yes, says_no}
 use Rattle.model.specs.Calls.Resume.{resume_unposed, resume_malformed, no_answer, resumes}
 use Rattle.automaton.specs.Tables.{Recognises}
@@ -17,14 +17,14 @@ use Rattle.automaton.specs.declared.Automaton.{Automaton}
 use Rattle.search.specs.declared.cursor.Cursor.{Cursor}
 use Rattle.route.specs.declared.Route.{Route}
 use Rattle.route.specs.Reading.{track_of, taken_at, taken_of}
-use Rattle.route.specs.Tracks.{Track, Taken}
+use Rattle.route.specs.Tracks.{Track}
 use Rattle.search.specs.Spaces as tr
 use Rattle.search.specs.Listings as li
 use Rattle.search.specs.Listings.{StandingOn, route_at}
 use Rattle.bridge.specs.Lines.{told}
 use Rattle.search.specs.Hunts.{space_of}
 use Rattle.enquiry.specs.Records.{record_on}
-use Rattle.enquiry.specs.Promises.{asked, question_of, standing_of, state_by, state_of, Capped, KeptPosed, Kept, Promise}
+use Rattle.enquiry.specs.Promises.{asked, question_of, standing_of, state_by, state_of, KeptPosed, Promise}
 use Rattle.enquiry.specs.Walks.{Walked, NotWalked}
 use Rattle.enquiry.proofs.Deliveries as v
 use Rattle.enquiry.proofs.Cursors.{unposed_at, posed_at, SameQuestion, question_same, cap_same}

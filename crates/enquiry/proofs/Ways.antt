@@ -1,5 +1,5 @@
 -- The walk along the words of a record.
-use Rattle.std.proofs.Common.{◌≡◌, ℕ, zero, suc, ◌+◌, ◌*◌, ◌<◌, ◌≤◌, Bool, true, false, List, [], ◌∷◌, ◌++◌, length, get_or, drop, Some, None, Option, sym, refl, ap, ◌∙◌, subst, ap₂, arith, length-append}
+use Rattle.std.proofs.Common.{◌≡◌, ℕ, suc, ◌+◌, ◌*◌, ◌<◌, ◌≤◌, true, false, List, [], ◌∷◌, ◌++◌, length, get_or, drop, Some, None, Option, sym, refl, ap, ◌∙◌, subst, ap₂, arith}
 use Rattle.model.specs.Plans.{PlanMeaning}
 use Rattle.model.specs.Rules.{RuleMeaning}
 use Rattle.model.specs.Records.{Line, words, line_words, mark_word}
@@ -7,15 +7,15 @@ use Rattle.automaton.specs.declared.Automaton.{Automaton}
 use Rattle.search.specs.declared.cursor.Cursor.{Cursor}
 use Rattle.route.specs.declared.Route.{Route}
 use Rattle.route.specs.Reading.{track_of, taken_at, taken_of}
-use Rattle.route.specs.Tracks.{Track, Taken}
+use Rattle.route.specs.Tracks.{Track}
 use Rattle.search.specs.Spaces.{Code, Space, added}
-use Rattle.search.specs.Listings.{Standing, StandingOn, route_at}
-use Rattle.route.proofs.Views.{taken_none, length_taken}
+use Rattle.search.specs.Listings.{Standing, route_at}
+use Rattle.route.proofs.Views.{taken_none}
 use Rattle.search.specs.Hunts.{space_of}
 use Rattle.bridge.proofs.Walk.{ahead, from_final}
 use Rattle.bridge.specs.Ahead.{From}
-use Rattle.enquiry.specs.Records.{words_on, record_on}
-use Rattle.enquiry.specs.Walks.{code, Trodden, Walked, NotWalked}
+use Rattle.enquiry.specs.Records.{words_on}
+use Rattle.enquiry.specs.Walks.{code, Trodden, Walked}
 use Rattle.enquiry.proofs.Wording.{three}
 
 -- a step that was taken, by the zone that it was to reach

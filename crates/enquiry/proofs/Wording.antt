@@ -1,5 +1,5 @@
-use Rattle.std.proofs.Common.{◌≡◌, ℕ, zero, suc, ◌+◌, ◌*◌, ◌<◌, ◌≤◌, List, [], ◌∷◌, length, get_or, drop, set, sym, refl, ap, ◌∙◌, subst, add-one, arith, drop-cons}
-use Rattle.route.specs.Tracks.{Taken, Track}
+use Rattle.std.proofs.Common.{◌≡◌, ℕ, zero, suc, ◌+◌, ◌*◌, ◌<◌, ◌≤◌, List, [], ◌∷◌, length, get_or, drop, set, sym, refl, ap, ◌∙◌, arith, drop-cons}
+use Rattle.route.specs.Tracks.{Taken}
 use Rattle.route.specs.Reading.{taken_of, taken_at, track_of}
 use Rattle.route.specs.declared.Route.{Route}
 use Rattle.route.proofs.Views.{length_taken}

@@ -1,5 +1,5 @@
 -- A walk along the words of a record.
-use Rattle.std.specs.Prelude.{◌≡◌, ℕ, ◌+◌, ◌≤◌, Bool, true, false, List, [], ◌∷◌, ◌++◌, length, Some, ◌≢◌}
+use Rattle.std.specs.Prelude.{◌≡◌, ℕ, ◌≤◌, Bool, true, false, List, [], ◌++◌, length, Some, ◌≢◌}
 use Rattle.model.specs.Plans.{PlanMeaning}
 use Rattle.model.specs.Rules.{RuleMeaning}
 use Rattle.model.specs.Records.{Line, words}
@@ -10,7 +10,6 @@ use Rattle.route.specs.Reading.{track_of}
 use Rattle.route.specs.Tracks.{Track}
 use Rattle.search.specs.Spaces.{Code, Space, added}
 use Rattle.search.specs.Listings.{Standing, route_at}
-use Rattle.bridge.specs.Lines.{line_codes}
 use Rattle.search.specs.Hunts.{space_of}
 use Rattle.bridge.specs.Ahead.{From}
 use Rattle.enquiry.specs.Records.{record_on}

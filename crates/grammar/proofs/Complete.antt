@@ -1,14 +1,13 @@
 -- What the grammar reads, the machine reads.
-use Rattle.std.proofs.Common.{◌≡◌, ℕ, List, [], ◌∷◌, Some, None, Option, sym, refl, ap, ◌∙◌}
+use Rattle.std.proofs.Common.{◌≡◌, List, ◌∷◌, Some, None, Option, refl, ap, ◌∙◌}
 use Rattle.grammar.specs.declared.Symbol.{Symbol}
-use Rattle.grammar.specs.declared.Symbol.TheVariants.{Name, Empty, Letter, Caret, Bar, Repeat, Open, Close}
+use Rattle.grammar.specs.declared.Symbol.TheVariants.{Bar, Repeat, Close}
 use Rattle.model.specs.declared.Label.{Label}
-use Rattle.model.specs.Patterns.{Tree, name, empty, ◌then◌, ◌or◌}
-use Rattle.model.specs.Records.{letter}
+use Rattle.model.specs.Patterns.{Tree, name, empty, ◌or◌}
 use Rattle.grammar.specs.declared.Times.{Times}
 use Rattle.grammar.specs.Grammar.{repeated}
 use Rattle.grammar.proofs.Leaving.{AtomTo, kind, nothing, marked, group, ItemTo, plain, times, SequenceTo, single, more, PatternTo, lone, another}
-use Rattle.grammar.specs.Machine.{Mode, due, named, marking, atomed, itemed, Level, level, State, at, joined, or_else, step, step_at, run, start, finish, finished, ready, begin, begun, opened, barred, closed, times_by, careted, lettered, in_mode}
+use Rattle.grammar.specs.Machine.{Mode, due, named, atomed, itemed, Level, level, State, at, joined, or_else, run}
 
 -- the mode after an atom, and after an item
 pub data AtomIn : Mode → Tree → Type 0 where

@@ -1,5 +1,5 @@
 -- The grammar in the form: from the symbols x a part is read, and r is left.
-use Rattle.std.proofs.Common.{ℕ, List, [], ◌∷◌, None}
+use Rattle.std.proofs.Common.{ℕ, List, ◌∷◌, None}
 use Rattle.model.specs.declared.Label.{Label}
 use Rattle.model.specs.Patterns.{Tree, name, empty, ◌then◌, ◌or◌}
 use Rattle.model.specs.Records.{letter}

@@ -1,9 +1,6 @@
 -- The grammar by concatenation and the grammar by what is left are one.
-use Rattle.std.proofs.Common.{◌≡◌, ℕ, List, [], ◌∷◌, ◌++◌, sym, refl, ap, ◌∙◌, subst, append_assoc, append-nil}
-use Rattle.model.specs.declared.Label.{Label}
-use Rattle.model.specs.Patterns.{Tree, name, empty, ◌then◌, ◌or◌}
-use Rattle.model.specs.Records.{letter}
-use Rattle.grammar.specs.declared.Times.{Times}
+use Rattle.std.proofs.Common.{◌≡◌, List, [], ◌∷◌, ◌++◌, sym, refl, ap, ◌∙◌, subst, append_assoc, append-nil}
+use Rattle.model.specs.Patterns.{Tree, ◌then◌, ◌or◌}
 use Rattle.grammar.specs.Grammar.{repeated, Atom, kind, nothing, marked, group, Item, plain, times, Sequence, single, more, Pattern, lone, another}
 use Rattle.grammar.specs.declared.Symbol.{Symbol}
 use Rattle.grammar.specs.declared.Symbol.TheVariants.{Name, Empty, Letter, Caret, Bar, Repeat, Open, Close}

@@ -1,18 +1,17 @@
 -- What the machine reads, the grammar reads; and from each state some symbols end it.
-use Rattle.std.proofs.Common.{◌≡◌, ℕ, List, [], ◌∷◌, ◌++◌, Some, None, Option, sym, refl, ap, ◌∙◌, subst, append-nil, arith}
+use Rattle.std.proofs.Common.{◌≡◌, ℕ, List, [], ◌∷◌, ◌++◌, Some, None, Option, sym, refl, ap, ◌∙◌, subst, arith}
 use Rattle.grammar.specs.declared.Symbol.{Symbol}
 use Rattle.grammar.specs.declared.Symbol.TheVariants.{Name, Empty, Letter, Caret, Bar, Repeat, Open, Close}
 use Rattle.model.specs.declared.Label.{Label}
-use Rattle.model.specs.Patterns.{Tree, name, empty, ◌then◌, ◌or◌}
+use Rattle.model.specs.Patterns.{Tree, name, empty}
 use Rattle.model.specs.Records.{letter}
 use Rattle.grammar.specs.declared.Times.{Times}
-use Rattle.grammar.specs.Grammar.{repeated}
 use Rattle.grammar.proofs.Leaving.{AtomTo, kind, nothing, marked, group, ItemTo, plain, times, SequenceTo, single, more, PatternTo, lone, another}
 use Rattle.grammar.specs.Machine.{Mode, due, named, marking, atomed, itemed, Level, level, State, at, joined, or_else, step, step_at, run, start, finish, finished, ready, begin, begun, opened, barred, closed, times_by, careted, lettered, in_mode}
 use Rattle.grammar.specs.Theorems.{Accepts}
 use Rattle.grammar.specs.Grammar.{Pattern, Begins}
 use Rattle.grammar.proofs.Plainly.{to_whole, from_whole}
-use Rattle.grammar.proofs.Complete.{AtomIn, by_name, by_atom, ItemIn, as_atom, as_item, Leads, close_leads, pattern}
+use Rattle.grammar.proofs.Complete.{by_name, by_atom, ItemIn, as_atom, as_item, close_leads, pattern}
 
 abbrev pub OnSome : {A : Type 0} → Option A → (A → Type 0) → Type 0
 OnSome None P = Unit {0}

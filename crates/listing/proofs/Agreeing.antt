@@ -1,7 +1,7 @@
 -- Two listings, side by side.
-use Rattle.std.proofs.Common.{◌≡◌, ◌⊎◌, ◌↔◌, sym, refl, ap, ◌∙◌, subst, inl, inr, ⊎_elim}
+use Rattle.std.proofs.Common.{◌≡◌, ◌⊎◌, ◌↔◌, sym, subst, inl, inr, ⊎_elim}
 use Rattle.model.specs.Records.{Answer, Before}
-use Rattle.model.specs.Questions.{EnquiryMeaning, Question, Candidate, IsAnswer, Lawful, SameAnswers}
+use Rattle.model.specs.Questions.{EnquiryMeaning, Question, IsAnswer, Lawful, SameAnswers}
 use Rattle.model.specs.Calls.{Standing, at_front, behind, After, First, Left}
 use Rattle.model.proofs.Answers.{total}
 use Rattle.model.proofs.Order.{before_irrefl, before_trans}

@@ -1,5 +1,5 @@
 -- From a question put in full to an enquiry before its first answer.
-use Rattle.std.proofs.Common.{◌≡◌, ℕ, ◌<◌, ◌≤◌, Bool, true, false, List, Ok, Err, sym, refl, ap, ◌∙◌, subst, arith}
+use Rattle.std.proofs.Common.{◌≡◌, ℕ, ◌<◌, Bool, true, false, List, Ok, Err, sym, refl, ◌∙◌, subst, arith}
 use Rattle.fault.specs.declared.Fault.{Fault}
 use Rattle.model.specs.declared.Choice.{Choice}
 use Rattle.model.specs.Plans.{PlanMeaning}
@@ -16,7 +16,7 @@ use Rattle.pattern.specs.Verdicts.{Reading}
 use Rattle.search.specs.declared.cursor.Cursor.{Cursor}
 use Rattle.enquiry.specs.Promises.{asked, state_by, state_of, Kept, Promise}
 use Rattle.listing.specs.Pairs.{UnderWay, Listed}
-use Rattle.listing.specs.Queries.{FullQuestion, full, Sound, RefusedFor, no_start, no_target, Compared, Opened}
+use Rattle.listing.specs.Queries.{FullQuestion, full, RefusedFor, no_start, no_target, Compared, Opened}
 
 -- what an accepted pose did
 record Done (n : EnquiryMeaning) (start target : ℕ) (choice : Choice) (s : State) : Type 0 where

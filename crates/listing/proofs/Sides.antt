@@ -1,14 +1,12 @@
 -- Two listings, turn by turn.
-use Rattle.std.proofs.Common.{◌≡◌, ℕ, zero, suc, ◌+◌, ◌-◌, ◌^◌, ◌<◌, ◌≤◌, Bool, true, false, ◌⊎◌, ◌↔◌, List, [], ◌∷◌, ◌++◌, length, get_or, take, drop, Some, None, Ok, Err, Option, sym, refl, ap, ◌∙◌, subst, ap₂, inl, inr, ⊎_elim, arith, get_or-take}
-use lib.Seq.{take-append-le}
+use Rattle.std.proofs.Common.{◌≡◌, ℕ, zero, suc, ◌+◌, ◌-◌, ◌^◌, ◌<◌, ◌≤◌, Bool, true, false, ◌↔◌, List, [], ◌∷◌, ◌++◌, length, get_or, take, Some, None, Ok, Err, Option, sym, refl, ap, ◌∙◌, subst, ap₂, arith, get_or-take}
 use borrow.Author.Tests.{clash}
-use Rattle.std.proofs.lemmas.List.{take_all}
 use Rattle.fault.specs.declared.Fault.{Fault}
 use Rattle.model.specs.Plans.{PlanMeaning}
 use Rattle.model.specs.Rules.{RuleMeaning, KeepsLaws}
 use Rattle.model.specs.Patterns.{Tree}
 use Rattle.model.specs.Records.{Answer, rec_words}
-use Rattle.model.specs.Questions.{EnquiryMeaning, Question, Lawful, IsAnswer, SameAnswers}
+use Rattle.model.specs.Questions.{EnquiryMeaning, Question, Lawful, SameAnswers}
 use Rattle.model.specs.Calls.{State, unposed, posed, at_front, behind, First, Left, Next}
 use Rattle.model.specs.Calls as calls
 use Rattle.model.specs.Calls.Next.{next_unposed, no_room, none_left, delivers}

@@ -1,5 +1,5 @@
 -- The bounds of a plan at their edges, and what leaves the zones of floor E.
-use Rattle.std.proofs.Common.{◌≡◌, ℕ, ◌<◌, ◌≤◌, Bool, true, false, cond, not, ◌&&◌, ◌||◌, T, eqb, ltb, leb, ◌⊎◌, List, [], ◌∷◌, Some, None, Option, sym, refl, subst, ⊎_elim, arith, lit<, lit≤, eqb→eq, ltb→lt, leb→le, T_not}
+use Rattle.std.proofs.Common.{◌≡◌, ℕ, ◌<◌, ◌≤◌, Bool, true, false, cond, not, ◌&&◌, ◌||◌, T, eqb, ltb, leb, List, [], ◌∷◌, Some, None, Option, sym, refl, subst, ⊎_elim, arith, lit<, lit≤, eqb→eq, ltb→lt, leb→le, T_not}
 use lib.Dec.{eqb_refl}
 use lib.Ieee.Fits.{and_l, and_r}
 use Rattle.model.specs.Plans.{PlanMeaning, Passage, BoundsBy, LeavesBy, Leaves, LeastLeaving}

@@ -1,5 +1,5 @@
 -- The candidates of a question are finitely many.
-use Rattle.std.proofs.Common.{◌≡◌, ℕ, ◌<◌, ◌≤◌, ◌⊎◌, List, [], ◌∷◌, map, sym, refl, subst, ⊎_elim, arith}
+use Rattle.std.proofs.Common.{◌≡◌, ℕ, ◌<◌, ◌≤◌, List, [], ◌∷◌, map, sym, refl, subst, ⊎_elim, arith}
 use mathlib.Core.List.{Memᴰ}
 use lib.ListN.{length-map}
 use Rattle.model.specs.Routes.{len}

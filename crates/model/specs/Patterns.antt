@@ -1,5 +1,5 @@
 -- Patterns, and the routes with lists that they give.
-use Rattle.std.specs.Prelude.{◌≡◌, ℕ, ◌<◌, Bool, true, false, cond, List, [], ◌∷◌, ◌++◌, Some, None, Option, ◌==◌}
+use Rattle.std.specs.Prelude.{◌≡◌, ℕ, ◌<◌, Bool, cond, List, [], ◌∷◌, ◌++◌, Some, None, Option, ◌==◌}
 use Rattle.model.specs.declared.Label.{Label}
 use Rattle.model.specs.declared.Label.TheVariants.{Kind, Any}
 use Rattle.model.specs.Plans.{PlanMeaning}

@@ -1,5 +1,5 @@
 -- Passing rules, and the three ways of restricting routes.
-use Rattle.std.specs.Prelude.{◌≡◌, ℕ, suc, ◌<◌, ◌≤◌, Bool, true, false, not, ◌&&◌, ◌||◌, T, ◌↔◌, List, [], ◌∷◌, ◌++◌, map, ◌==◌, ◌≢◌, slice_index}
+use Rattle.std.specs.Prelude.{◌≡◌, ℕ, suc, ◌<◌, ◌≤◌, Bool, false, not, ◌&&◌, ◌||◌, T, ◌↔◌, List, [], ◌∷◌, ◌++◌, map, ◌==◌, ◌≢◌, slice_index}
 use Rattle.model.specs.Routes.{Step, Route, passages, zones_of, len, end}
 
 -- A trail: no two places of the route have the same passage.

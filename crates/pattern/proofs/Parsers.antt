@@ -1,20 +1,18 @@
 -- What each turn of the parser does to what it shows.
-use Rattle.std.proofs.Common.{◌≡◌, ℕ, zero, suc, ◌+◌, ◌-◌, ◌<◌, ◌≤◌, ◌≢◌, ◌↔◌, List, [], ◌∷◌, length, get_or, set, Some, None, Option, sym, refl, ap, ◌∙◌, subst, add-one, arith, get_or-set_other, get_or-set_same}
-use Rattle.model.specs.Patterns.{Tree, name, empty}
+use Rattle.std.proofs.Common.{◌≡◌, ℕ, suc, ◌+◌, ◌-◌, ◌<◌, ◌≤◌, ◌≢◌, ◌↔◌, List, [], ◌∷◌, length, get_or, set, Some, None, Option, sym, refl, ap, ◌∙◌, subst, add-one, arith, get_or-set_other, get_or-set_same}
+use Rattle.model.specs.Patterns.{Tree, name}
 use Rattle.model.specs.Records.{letter}
 use Rattle.model.specs.declared.Label.{Label}
-use Rattle.automaton.specs.Run.{In}
-use Rattle.automaton.specs.Tables.{edges, at, Compiled, Extends, Built, Within, Keeps, Known, InTurn, Either, Recognises}
+use Rattle.automaton.specs.Tables.{Compiled, Extends, Built, Within, Keeps, Known, InTurn, Either}
 use Rattle.automaton.specs.declared.Automaton.{Automaton}
 use Rattle.automaton.specs.declared.Fragment.{Fragment}
 use Rattle.automaton.proofs.Glushkov.{move}
 use Rattle.grammar.specs.Grammar as grammar
 use Rattle.grammar.specs.Machine as machine
 use Rattle.grammar.specs.Machine.{joined, or_else, ready, begin, begun, opened, barred, closed, times_by, careted, lettered, in_mode, finished, step_at, finish}
-use Rattle.grammar.specs.declared.Symbol.{Symbol}
 use Rattle.grammar.specs.declared.Symbol.TheVariants as symbol
 use Rattle.grammar.specs.declared.Times.{Times}
-use Rattle.pattern.specs.Parsing.{Held, no_part, a_part, Last, is_due, is_named, is_marking, is_atom, is_item, no_level, OpenLevels, pending, Shows, Ready, Room, NamedRoom, Added, Whole, Goes}
+use Rattle.pattern.specs.Parsing.{Held, no_part, a_part, Last, is_due, is_named, is_marking, is_atom, is_item, no_level, OpenLevels, pending, Shows, NamedRoom, Added, Whole, Goes}
 use Rattle.pattern.specs.declared.parser.Mode.{Mode}
 use Rattle.pattern.specs.declared.parser.Mode.TheVariants.{Due, Named, Marking, Atom, Item}
 use Rattle.pattern.specs.declared.parser.Level.{Level}

@@ -1,16 +1,14 @@
 -- What the reading of a text keeps from token to token.
-use Rattle.std.proofs.Common.{◌≡◌, ℕ, zero, suc, ◌+◌, ◌-◌, ◌<◌, ◌≤◌, Bool, true, false, cond, eqb, ◌⊎◌, List, [], ◌∷◌, ◌++◌, length, get_or, Some, None, Ok, Err, Option, Result, sym, refl, ap, ◌∙◌, subst, inl, inr, add-one, arith, MatchResult}
+use Rattle.std.proofs.Common.{◌≡◌, ℕ, ◌<◌, ◌≤◌, Bool, true, false, cond, eqb, ◌⊎◌, List, [], ◌∷◌, ◌++◌, length, get_or, Some, None, Ok, Err, Option, Result, sym, refl, ap, ◌∙◌, subst, inl, inr, add-one, arith, MatchResult}
 use Rattle.std.proofs.lemmas.Bool.Decides.{nat_tests}
-use Rattle.fault.specs.Faults.{pattern_number}
 use Rattle.fault.specs.declared.PatternFault.{PatternFault}
 use Rattle.fault.specs.declared.PatternFault.TheVariants.{Long, Byte, Unknown, Misplaced, Names, Nested}
 use Rattle.model.specs.Patterns.{Tree}
-use Rattle.model.specs.declared.Label.{Label}
 use Rattle.automaton.specs.Tables.{Recognises}
 use Rattle.automaton.specs.declared.Automaton.{Automaton}
 use Rattle.grammar.specs.Grammar as grammar
 use Rattle.grammar.specs.Grammar.{Begins}
-use Rattle.grammar.specs.Machine.{Mode, due, named, marking, atomed, itemed, Level, level, State, at, step, step_at, run, start, finish}
+use Rattle.grammar.specs.Machine.{Mode, due, named, marking, atomed, itemed, Level, level, State, at, step_at, run, start, finish}
 use Rattle.grammar.specs.declared.Symbol.{Symbol}
 use Rattle.grammar.specs.declared.Symbol.TheVariants.{Name, Empty, Letter, Caret, Bar, Repeat, Open, Close}
 use Rattle.grammar.proofs.Sound.{sound, complete, alive, dead, run_++}
@@ -22,7 +20,7 @@ use Rattle.reader.specs.declared.class.Class.TheVariants.{Capital}
 use Rattle.reader.specs.declared.word.Word.{Word}
 use Rattle.reader.specs.declared.word.Word.TheVariants as word
 use Rattle.reader.proofs.Lexing.{cut_more}
-use Rattle.pattern.specs.Texts.{Gives, counted, opened, names_of, open_of, token, at_end, Breaks, Sooner, FirstFault}
+use Rattle.pattern.specs.Texts.{counted, opened, names_of, open_of, token, at_end, Breaks, Sooner, FirstFault}
 use Rattle.pattern.specs.Parsing.{Usable, Shows, Ready, Goes, Refuses, Ended}
 use Rattle.pattern.specs.Verdicts.{Reading}
 use Rattle.pattern.specs.declared.parser.Parser.{Parser}

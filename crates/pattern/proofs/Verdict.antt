@@ -1,5 +1,5 @@
 -- A text has at most one tree and at most one first fault; and what is needed to say that a fault is the first.
-use Rattle.std.proofs.Common.{◌≡◌, ℕ, zero, suc, ◌+◌, ◌-◌, ◌<◌, ◌≤◌, ◌⊎◌, List, [], ◌∷◌, ◌++◌, length, sym, refl, ap, ◌∙◌, subst, inl, inr, append_assoc, arith}
+use Rattle.std.proofs.Common.{◌≡◌, ℕ, ◌+◌, ◌<◌, ◌≤◌, ◌⊎◌, List, [], ◌∷◌, ◌++◌, length, sym, refl, ap, ◌∙◌, subst, inl, inr, append_assoc, arith}
 use native.Mathlib.Decide.{dec_lt}
 use Rattle.fault.specs.Faults.{pattern_number}
 use Rattle.fault.specs.declared.PatternFault.{PatternFault}

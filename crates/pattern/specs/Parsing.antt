@@ -1,6 +1,6 @@
 -- What the parser holds, against the state of the machine that reads symbols: each fragment of the parser reads the tree
 -- of the machine over a range of positions of its own, and the ranges stand side by side.
-use Rattle.std.specs.Prelude.{◌≡◌, ℕ, suc, ◌+◌, ◌-◌, ◌<◌, ◌≤◌, List, [], ◌∷◌, length, Some, None, Option, Result, MatchResult, ◌≢◌, slice_index_or}
+use Rattle.std.specs.Prelude.{◌≡◌, ℕ, suc, ◌+◌, ◌<◌, ◌≤◌, List, [], ◌∷◌, length, Some, None, Option, Result, MatchResult, ◌≢◌, slice_index_or}
 use Rattle.fault.specs.declared.PatternFault.{PatternFault}
 use Rattle.fault.specs.declared.PatternFault.TheVariants.{Long, Byte, Unknown, Misplaced, Names, Nested}
 use Rattle.model.specs.Patterns.{Tree}

@@ -1,11 +1,10 @@
 -- What reading a pattern text answers.
 use Rattle.std.specs.Prelude.{ℕ, List, Result, MatchResult}
-use Rattle.fault.specs.declared.Fault.{Fault}
 use Rattle.fault.specs.declared.PatternFault.{PatternFault}
 use Rattle.model.specs.Patterns.{Tree}
 use Rattle.automaton.specs.Tables.{Recognises}
 use Rattle.automaton.specs.declared.Automaton.{Automaton}
-use Rattle.pattern.specs.Texts.{Gives, Unbroken, FirstFault, FaultOf}
+use Rattle.pattern.specs.Texts.{Gives, Unbroken, FirstFault}
 
 -- The text breaks no rule, and the automaton recognises the tree that it gives.
 pub record Reading (text : List ℕ) (a : Automaton) : Type 0 where

@@ -1,6 +1,6 @@
-use Rattle.std.proofs.Common.{◌≡◌, ℕ, ◌<◌, ◌≤◌, Bool, true, false, cond, ltb, ◌↔◌, List, Some, None, Option, sym, refl, ap, ◌∙◌, subst, arith, lt-ltb}
+use Rattle.std.proofs.Common.{◌≡◌, ℕ, ◌<◌, ◌≤◌, true, cond, ◌↔◌, List, Some, None, Option, sym, refl, ap, ◌∙◌, subst, arith, lt-ltb}
 use Rattle.model.specs.Plans.{Passage}
-use Rattle.plan.specs.Filed.{zone_count_of, count_of, entry_of, end_of, number_of, destination_of, kind_of, body_below_lem, owner_below, passage_by, filed_passage, accepted}
+use Rattle.plan.specs.Filed.{zone_count_of, count_of, entry_of, end_of, destination_of, kind_of, body_below_lem, owner_below, passage_by, filed_passage, accepted}
 use Rattle.plan.specs.FiledLaw.{Body, Describes}
 use Rattle.plan.specs.FiledMeaning.{filed}
 use Rattle.plan.specs.FiledFacts.{Kept, kept, body_of, body_own, owned, owner_own, owner_ends}

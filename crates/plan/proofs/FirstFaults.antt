@@ -1,5 +1,5 @@
 -- The first fault that the tests find is the first fault of the file.
-use Rattle.std.proofs.Common.{◌≡◌, ℕ, zero, suc, ◌+◌, ◌-◌, ◌*◌, ◌<◌, ◌≤◌, min, Bool, true, false, cond, not, ◌||◌, eqb, ltb, leb, ◌⊎◌, List, length, is_some, Some, None, Option, sym, refl, ap, ◌∙◌, subst, inl, inr, ⊎_elim, arith, ltb-false, ltb-true, ne_eqb, eqb-true, leb-false, leb-true}
+use Rattle.std.proofs.Common.{◌≡◌, ℕ, zero, suc, ◌+◌, ◌-◌, ◌<◌, ◌≤◌, min, Bool, true, false, cond, not, ◌||◌, eqb, ltb, leb, ◌⊎◌, List, length, is_some, Some, None, Option, sym, refl, ap, ◌∙◌, subst, inl, inr, arith, ltb-false, ltb-true, ne_eqb, eqb-true, leb-false, leb-true}
 use native.Mathlib.Decide.{dec_lt}
 use borrow.Author.Tests.{eqb-false, not-true}
 use Rattle.fault.specs.declared.PlanFault.{PlanFault}
@@ -7,7 +7,7 @@ use Rattle.fault.specs.declared.PlanFault.TheVariants.{Short, Zones, Passages, L
 use Rattle.plan.specs.First.{when, or_else, first_below}
 use Rattle.plan.specs.FirstFacts.{or_left, or_right, when_none, none_at, Came, came}
 use Rattle.plan.specs.Filed.{zone_count_of, count_of, size_of, entry_of, entry_place, body_place_lem, number_of, destination_of, kind_of, body_below_lem, head_fault, bad_entry_lem, entry_fault, body_fault, file_fault, Framed}
-use Rattle.plan.specs.FiledFacts.{framed, entry_fits, entry_zero, entry_step, Fine, fine, no_some}
+use Rattle.plan.specs.FiledFacts.{framed, entry_fits, entry_zero, entry_step, fine, no_some}
 use Rattle.plan.specs.FiledLaw.{Breaks, under_three, no_zone, over_64, over_256, other_length, not_from_0, falls, passes, repeats, leads_out, no_kind, turn, FirstFault, KeepsRules}
 
 -- what a rule that is broken early says

@@ -1,11 +1,11 @@
-use Rattle.std.proofs.Common.{◌≡◌, ℕ, ◌+◌, ◌<◌, ◌≤◌, Bool, true, false, cond, eqb, ltb, ◌≢◌, List, length, get_or, set, replicate, Some, None, Option, sym, refl, ap, ◌∙◌, subst, add-one, arith, length-set, get_or-set_other, get_or-set_same, eq-eqb, ne_eqb}
+use Rattle.std.proofs.Common.{◌≡◌, ℕ, ◌+◌, ◌<◌, ◌≤◌, Bool, true, false, cond, eqb, ltb, List, length, get_or, set, replicate, Some, None, Option, sym, refl, ap, ◌∙◌, subst, add-one, arith, get_or-set_other, get_or-set_same, eq-eqb, ne_eqb}
 use native.Mathlib.Decide.{ℕ_discrete}
 use lib.ListN.{get_or-replicate}
 use Rattle.plan.specs.First.{when, or_else, first_below}
 use Rattle.plan.specs.FirstFacts.{first_at}
 use Rattle.plan.specs.Filed.{number_of, count_of, body_below_lem, slot_of, filed_passage, passage_by}
 use Rattle.model.specs.Plans.{triple}
-use Rattle.plan.specs.FiledFacts.{Kept, Numbered, body_of, Sits, sits}
+use Rattle.plan.specs.FiledFacts.{Kept, body_of, Sits, sits}
 use Rattle.plan.proofs.Leavings.{passage_at}
 
 or_none : {A : Type 0} (o : Option A) → or_else o None ≡ o

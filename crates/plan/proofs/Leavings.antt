@@ -1,7 +1,7 @@
-use Rattle.std.proofs.Common.{◌≡◌, ℕ, ◌+◌, ◌*◌, ◌<◌, ◌≤◌, Bool, true, false, cond, eqb, ltb, leb, List, Some, None, Option, sym, refl, ap, ◌∙◌, subst, arith, ltb-true, lt-ltb}
+use Rattle.std.proofs.Common.{◌≡◌, ℕ, ◌<◌, ◌≤◌, Bool, true, false, cond, ltb, List, Some, None, Option, sym, refl, ap, ◌∙◌, subst, arith, ltb-true, lt-ltb}
 use Rattle.model.specs.Plans.{Passage, LeavesBy, Leaves, LeastLeaving}
-use Rattle.plan.specs.Filed.{zone_count_of, count_of, entry_of, number_of, destination_of, kind_of, body_below_lem, owner_below, passage_by, filed_passage, end_of, Among, LeastAmong, accepted}
-use Rattle.plan.specs.FiledFacts.{Kept, kept, Numbered, body_of, body_own, Owned, owned, owner_own, owner_ends, end_fits}
+use Rattle.plan.specs.Filed.{zone_count_of, count_of, entry_of, number_of, body_below_lem, passage_by, filed_passage, end_of, LeastAmong}
+use Rattle.plan.specs.FiledFacts.{Kept, body_of, body_own, owned, owner_own, owner_ends, end_fits}
 
 pub record LeftBy (b : List ℕ) (z n : ℕ) : Type 0 where
   pub low : n < 256

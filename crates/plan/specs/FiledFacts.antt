@@ -1,11 +1,11 @@
-use Rattle.std.specs.Prelude.{◌≡◌, ℕ, zero, suc, ◌+◌, ◌-◌, ◌*◌, ◌<◌, ◌≤◌, min, Bool, true, false, cond, not, ◌||◌, ltb, leb, ◌⊎◌, List, length, is_some, Some, None, Option, ◌==◌, nat_eq, nat_le, nat_lt, refl}
+use Rattle.std.specs.Prelude.{◌≡◌, ℕ, zero, suc, ◌+◌, ◌-◌, ◌<◌, ◌≤◌, Bool, true, false, cond, not, ◌||◌, ltb, leb, ◌⊎◌, List, length, is_some, Some, None, Option, ◌==◌, nat_eq, nat_le, nat_lt, refl}
 use Rattle.std.proofs.Common.{sym, ◌∙◌, ap, subst, inl, inr, ⊎_elim, arith, eq-or-lt_of_le, le_of_suc-le-suc, add-one, ltb-false, leb-false, leb-true, eqb-true, ltb-true, lt-ltb, le-ltb, le-leb, eq-eqb, ne_eqb}
 use Rattle.std.proofs.lemmas.Bool.{eqb-false, not-false, lt-leb}
 use Rattle.fault.specs.declared.PlanFault.{PlanFault}
-use Rattle.fault.specs.declared.PlanFault.TheVariants.{Short, Zones, Passages, Length, Entry, Repeated, Destination, Kind}
+use Rattle.fault.specs.declared.PlanFault.TheVariants.{Short, Zones, Passages, Repeated, Destination}
 use Rattle.plan.specs.First.{when, or_else, first_below}
-use Rattle.plan.specs.Filed.{zone_count_of, count_of, size_of, entry_of, entry_place, body_place_lem, number_of, destination_of, kind_of, body_below_lem, owner_below, head_fault, bad_entry_lem, entry_fault, body_fault, file_fault, accepted, Framed, end_of}
-use Rattle.plan.specs.FirstFacts.{or_left, or_right, when_none, first_at, none_at, Came, came}
+use Rattle.plan.specs.Filed.{zone_count_of, count_of, size_of, entry_of, body_place_lem, number_of, destination_of, kind_of, body_below_lem, owner_below, head_fault, bad_entry_lem, entry_fault, body_fault, file_fault, accepted, Framed, end_of}
+use Rattle.plan.specs.FirstFacts.{or_left, or_right, when_none, first_at, none_at, came}
 
 either_left : (a b : Bool) → (a || b) ≡ false → a ≡ false
 either_left true b e = e

@@ -1,9 +1,9 @@
 -- The meaning of a file in which there is no fault.
-use Rattle.std.specs.Prelude.{◌≡◌, ℕ, ◌<◌, ◌≤◌, Bool, true, false, cond, List, Some, None, Option, nat_lt, refl}
+use Rattle.std.specs.Prelude.{◌≡◌, ℕ, ◌<◌, Bool, true, false, cond, List, Some, None, Option, nat_lt, refl}
 use Rattle.std.proofs.Common.{arith, ltb-true}
 use Rattle.model.specs.Plans.{PlanMeaning, BoundsBy}
 use Rattle.plan.specs.Filed.{zone_count_of, count_of, body_below_lem, passage_by, filed_passage, accepted}
-use Rattle.plan.specs.FiledFacts.{Kept, kept, Numbered, body_of, Owned, owned}
+use Rattle.plan.specs.FiledFacts.{Kept, kept, body_of, owned}
 
 pub filed_within : (b : List ℕ) → Kept b → (n : ℕ) → BoundsBy (zone_count_of b) n (filed_passage b n)
 filed_within b k n = go (nat_lt n 256) refl

@@ -1,5 +1,5 @@
 -- A grid floor: rows and columns, and passages that follow from them.
-use Rattle.std.specs.Prelude.{ℕ, ◌+◌, ◌-◌, ◌*◌, ◌/◌, ◌%◌, Bool, cond, ◌||◌, Some, None, Option, ◌==◌, nat_lt}
+use Rattle.std.specs.Prelude.{ℕ, ◌+◌, ◌-◌, ◌*◌, ◌/◌, ◌%◌, cond, ◌||◌, None, Option, ◌==◌, nat_lt}
 use Rattle.fault.specs.declared.PlanFault.{PlanFault}
 use Rattle.fault.specs.declared.PlanFault.TheVariants.{Cells}
 use Rattle.model.specs.Plans.{Passage}

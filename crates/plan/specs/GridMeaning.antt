@@ -1,5 +1,5 @@
 -- The meaning of a grid floor.
-use Rattle.std.specs.Prelude.{◌≡◌, ℕ, ◌+◌, ◌-◌, ◌*◌, ◌/◌, ◌%◌, ◌<◌, ◌≤◌, Bool, true, false, cond, Some, None, Option, ◌==◌, nat_lt, refl}
+use Rattle.std.specs.Prelude.{◌≡◌, ℕ, ◌+◌, ◌-◌, ◌*◌, ◌/◌, ◌%◌, ◌<◌, ◌≤◌, Bool, true, false, cond, None, Option, ◌==◌, nat_lt, refl}
 use Rattle.std.proofs.Common.{◌∙◌, ap, arith, mul-le-mul_left, mul_comm, mul-add, mod-lt, div-lt_iff_lt-mul, mul-zero, mul-one, lit<, ltb-true, ltb-false}
 use Rattle.std.proofs.Math.Nat.{div-add-mod}
 use Rattle.model.specs.Plans.{PlanMeaning, Passage, BoundsBy}

@@ -1,5 +1,5 @@
 -- A plan without the shut passages.
-use Rattle.std.specs.Prelude.{◌≡◌, ℕ, ◌/◌, ◌%◌, ◌^◌, min, Bool, true, false, cond, not, List, length, Some, None, Option, ◌==◌, slice_index, refl}
+use Rattle.std.specs.Prelude.{ℕ, ◌/◌, ◌%◌, min, Bool, true, false, cond, not, List, length, None, Option, ◌==◌, slice_index}
 use Rattle.fault.specs.declared.PlanFault.{PlanFault}
 use Rattle.fault.specs.declared.PlanFault.TheVariants.{Sheet}
 use Rattle.model.specs.Plans.{Passage, PlanMeaning, BoundsBy}

@@ -1,10 +1,10 @@
 -- How long an allowed route can be: no passage below 256 repeats, so there are at most 256.
-use Rattle.std.proofs.Common.{ℕ, ◌≤◌, arith}
+use Rattle.std.proofs.Common.{◌≤◌, arith}
 use Rattle.model.specs.Routes.{Route, len}
 use Rattle.model.specs.Rules.{RuleMeaning, Allowed, Plain, KeepsLaws}
 use Rattle.model.proofs.Answers.{plain}
 use Rattle.model.proofs.RuleLaws.{trail_short}
-use Rattle.route.specs.Limits.{limit, AtMost, RoutesAreShort}
+use Rattle.route.specs.Limits.{limit, RoutesAreShort}
 
 within_limit : (ru : RuleMeaning) → KeepsLaws ru → (r : Route) → Plain r → Allowed ru r → len r ≤ limit ru
 within_limit ru k r p a =

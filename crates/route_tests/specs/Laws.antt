@@ -1,8 +1,8 @@
 -- The two laws of the rules of one's own.
-use Rattle.std.specs.Prelude.{◌≡◌, ℕ, ◌≤◌, Bool, true, false, ◌&&◌, T, List, [], ◌∷◌, length, refl}
+use Rattle.std.specs.Prelude.{ℕ, ◌≤◌, Bool, true, false, ◌&&◌, T, List, [], ◌∷◌, length, refl}
 use Rattle.std.proofs.Common.{arith}
 use Rattle.model.specs.Routes.{Step, Route}
-use Rattle.model.specs.Rules.{Allowed, Plain, KeepsLaws, trail}
+use Rattle.model.specs.Rules.{Allowed, KeepsLaws, trail}
 use Rattle.model.proofs.RuleLaws.{restrictors}
 use Rattle.route_tests.specs.Own.{nowhere, lifts_early}
 

@@ -1,8 +1,8 @@
 -- From the answer that follows to the answer that is delivered.
-use Rattle.std.proofs.Common.{◌≡◌, ℕ, Bool, true, false, ◌⊎◌, List, [], ◌∷◌, sym, refl, ap, ◌∙◌, subst, inl, inr, ⊎_elim}
+use Rattle.std.proofs.Common.{◌≡◌, ℕ, Bool, true, false, ◌⊎◌, List, [], ◌∷◌, sym, refl, subst, inl, inr}
 use Rattle.route.specs.Tracks.{Taken, Track}
 use Rattle.search.specs.Spaces.{Code, Space, Goal, Earlier}
-use Rattle.search.specs.Listings.{codes_of, route_at, Follows, Followed, ToCome, Delivers, Delivered}
+use Rattle.search.specs.Listings.{codes_of, route_at, Followed, ToCome, Delivered}
 use Rattle.search.proofs.Searches.{not_both}
 
 none_earlier : (w : List Code) → Earlier w [] → ⊥

@@ -1,8 +1,8 @@
 -- What is left to list behind a position.
-use Rattle.std.proofs.Common.{◌≡◌, ℕ, zero, suc, ◌+◌, ◌%◌, ◌<◌, ◌≤◌, Bool, true, false, ◌⊎◌, List, [], ◌∷◌, Some, None, Option, sym, refl, ap, ◌∙◌, subst, inl, inr, ⊎_elim, arith}
+use Rattle.std.proofs.Common.{◌≡◌, ℕ, ◌+◌, ◌%◌, true, false, ◌⊎◌, List, [], ◌∷◌, Some, None, Option, sym, refl, ap, ◌∙◌, subst, inl, inr, ⊎_elim, arith}
 use Rattle.route.specs.Tracks.{Taken, Track}
-use Rattle.search.specs.Spaces.{Code, Space, added, grow, Goal, Before, Earlier, Onward, Begins, First, Nothing, Sought}
-use Rattle.search.specs.Listings.{code_of, codes_on, codes_of, route_at, StandingOn, Standing, Follows, Followed}
+use Rattle.search.specs.Spaces.{Code, Space, grow, Goal, Before, Earlier, Onward, Begins, Nothing, Sought}
+use Rattle.search.specs.Listings.{code_of, codes_on, codes_of, route_at, StandingOn, Follows, Followed}
 use Rattle.search.proofs.Searches.{asym, irr, onward_all, answer_down, answer_up, grow_down, answer_none}
 
 -- w goes on from xs, and with what P says

@@ -1,10 +1,10 @@
 -- What a step reaches, from the triple that the plan answers.
-use Rattle.std.proofs.Common.{◌≡◌, ℕ, zero, suc, ◌+◌, ◌<◌, ◌≤◌, Bool, true, false, cond, not, ◌&&◌, eqb, ltb, ◌≢◌, ◌⊎◌, List, [], ◌∷◌, length, Some, None, Option, sym, refl, ap, ◌∙◌, subst, ap₂, inl, inr, ⊎_elim, arith, ltb-true, eqb-true}
+use Rattle.std.proofs.Common.{◌≡◌, ℕ, ◌+◌, ◌<◌, ◌≤◌, Bool, true, false, cond, not, ◌&&◌, eqb, ltb, ◌≢◌, ◌⊎◌, List, [], ◌∷◌, length, Some, None, Option, sym, refl, ap, ◌∙◌, subst, inl, inr, ⊎_elim, arith, ltb-true, eqb-true}
 use borrow.Author.Tests.{clash}
 use Rattle.model.specs.Plans.{Passage, PlanMeaning, triple, Leaves, LeavesBy}
 use Rattle.model.specs.Rules.{RuleMeaning}
-use Rattle.route.specs.Tracks.{Taken, Track, bare, last_zone, last_mask}
-use Rattle.search.specs.Spaces.{Code, Space, Goal, Before, Only, Marks, Onward, Between, Under, Nothing, Sought}
+use Rattle.route.specs.Tracks.{Track, bare, last_zone, last_mask}
+use Rattle.search.specs.Spaces.{Code, Goal, Before, Marks, Onward, Between, Under, Nothing, Sought}
 use Rattle.search.proofs.Searches.{answer_none, by_order, lower, same, higher, settle, nothing_join}
 use Rattle.automaton.specs.Step.{stepped}
 use Rattle.search.specs.Hunts.{first_mask, space_of, reach_by, judged}

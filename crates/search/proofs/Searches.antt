@@ -1,7 +1,7 @@
 -- How searches below a route are put together.
 use Rattle.std.proofs.Common.{◌≡◌, ℕ, zero, suc, ◌+◌, ◌<◌, ◌≤◌, Bool, true, false, ◌⊎◌, List, [], ◌∷◌, Some, None, Option, sym, refl, ap, ◌∙◌, subst, inl, inr, ⊎_elim, eq-zero-or-pos, arith}
-use Rattle.route.specs.Tracks.{Taken, Track}
-use Rattle.search.specs.Spaces.{Code, Space, added, grow, Goal, Before, Earlier, Only, Marks, Onward, Between, Under, Begins, First, Nothing, Sought}
+use Rattle.route.specs.Tracks.{Track}
+use Rattle.search.specs.Spaces.{Code, Space, added, grow, Goal, Before, Earlier, Only, Marks, Onward, Between, Begins, First, Nothing, Sought}
 
 pub code_is : (c : Code) (p m : ℕ) → c.passage ≡ p → c.mark ≡ m → c ≡ record { passage = p; mark = m }
 code_is c p m e f = λ i. record { passage = e i; mark = f i }

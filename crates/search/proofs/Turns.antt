@@ -1,13 +1,13 @@
 -- One turn of the search for the answer that follows.
-use Rattle.std.proofs.Common.{◌≡◌, ℕ, zero, suc, ◌+◌, ◌-◌, ◌<◌, ◌≤◌, Bool, true, false, List, [], ◌∷◌, sym, refl, ap, ◌∙◌, subst}
+use Rattle.std.proofs.Common.{◌≡◌, ℕ, ◌+◌, ◌-◌, ◌<◌, true, false, List, [], ◌∷◌, sym, ap, ◌∙◌, subst}
 use Rattle.route.specs.Tracks.{Taken, Track, popped, tail}
 use Rattle.route.specs.Reading.{taken_at, taken_of, track_of}
 use Rattle.search.specs.Spaces.{Code, Space, Goal, Earlier, Onward, Nothing, Sought}
-use Rattle.search.specs.Listings.{code_of, codes_of, route_at, StandingOn, Follows, Followed}
+use Rattle.search.specs.Listings.{route_at, StandingOn, Follows}
 use Rattle.route.specs.declared.Route.{Route}
 use Rattle.search.proofs.Searches.{kept, nothing, sought_at}
 use Rattle.route.proofs.Views.{taken_none, taken_last}
-use Rattle.search.proofs.Follow.{Rest, rest_found, rest_none, rest_pop, followed_true, followed_false}
+use Rattle.search.proofs.Follow.{Rest, rest_found, rest_none, rest_pop}
 
 module _ (t : Space) (z : ℕ) (u : List Code) (l r : Route) (p m : ℕ) (starts : l.start ≡ z) (rest : Rest t z u (taken_of (taken_at l) l.len) p m) where
   pub turn_found : Sought t (track_of l) (Onward p m) true (track_of r) → Follows t z u (track_of r)

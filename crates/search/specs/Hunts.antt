@@ -1,5 +1,5 @@
 -- The search space of an enquiry: plan, rule, automaton, target and a greatest length.
-use Rattle.std.specs.Prelude.{ℕ, Bool, cond, not, ◌&&◌, length, Some, None, Option, ◌==◌, bit_and, nat_lt}
+use Rattle.std.specs.Prelude.{ℕ, cond, not, ◌&&◌, length, Some, None, Option, ◌==◌, bit_and, nat_lt}
 use Rattle.model.specs.Plans.{Passage, PlanMeaning}
 use Rattle.model.specs.Rules.{RuleMeaning}
 use Rattle.automaton.specs.Step.{stepped}

@@ -1,5 +1,5 @@
 -- The answer that follows a route in the order of codes.
-use Rattle.std.specs.Prelude.{◌≡◌, ℕ, Bool, true, false, List, [], ◌∷◌, Some, None, Option}
+use Rattle.std.specs.Prelude.{◌≡◌, ℕ, Bool, true, false, List, [], ◌∷◌, Some}
 use Rattle.route.specs.Tracks.{Taken, Track}
 use Rattle.search.specs.Spaces.{Code, Space, Goal, Earlier}
 

@@ -1,7 +1,6 @@
 -- A tree of routes: which step may be added where, and which routes are answers. Answers below a route, and the first of them.
 use Rattle.std.specs.Prelude.{◌≡◌, ℕ, ◌<◌, ◌≤◌, Bool, true, false, ◌⊎◌, List, [], ◌∷◌, Some, None, Option}
-use Rattle.std.proofs.Common.{inl, inr}
-use Rattle.route.specs.Tracks.{Taken, Track}
+use Rattle.route.specs.Tracks.{Track}
 
 -- a step as it is compared: a passage and a mark
 pub record Code : Type 0 where

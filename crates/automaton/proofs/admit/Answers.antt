@@ -1,4 +1,4 @@
-use Rattle.std.proofs.Common.{◌≡◌, ◌*◌, ◌%◌, ◌^◌, ◌<◌, length, refl, arith, rules}
+use Rattle.std.proofs.Common.{◌≡◌, ◌*◌, ◌%◌, ◌^◌, ◌<◌, length, arith, rules}
 use Rattle.std.proofs.lemmas.Nat.{one_shl}
 use Rattle.automaton.proofs.Masks.{admit_kind, admit_any}
 use Rattle.automaton.proofs.admit.Goals as goal

@@ -1,5 +1,5 @@
-use Rattle.std.proofs.Common.{◌≡◌, ◌<◌, length, sym, subst, arith, rules}
-use Rattle.bits.proofs.Bit.{has_and, has_below}
+use Rattle.std.proofs.Common.{◌<◌, length, arith, rules}
+use Rattle.bits.proofs.Bit.{has_below}
 use Rattle.automaton.proofs.Masks.{linked_none, linked_more, linked_skip, linked_all}
 use Rattle.automaton.proofs.link.Goals as goal
 use Rattle.automaton.proofs.link.Goals.{then-from-s-eq1, else-from-s-eq1}

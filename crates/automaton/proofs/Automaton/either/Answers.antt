@@ -1,4 +1,3 @@
-use Rattle.std.proofs.Common.{refl}
 use Rattle.automaton.proofs.Connect.{or_built}
 use Rattle.automaton.proofs.Automaton.either.Goals as goal
 

@@ -1,8 +1,7 @@
-use Rattle.std.proofs.Common.{◌≡◌, ℕ, ◌*◌, ◌%◌, ◌^◌, ◌<◌, ◌≢◌, length, get_or, set, sym, refl, subst, arith, get_or-set_other, get_or-set_same, rules}
+use Rattle.std.proofs.Common.{◌≡◌, ℕ, ◌*◌, ◌%◌, ◌^◌, ◌<◌, ◌≢◌, length, refl, arith, get_or-set_other, get_or-set_same, rules}
 use Rattle.std.proofs.lemmas.Nat.{one_shl}
 use Rattle.model.specs.Records.{letter}
 use Rattle.model.proofs.RecordLaws.{record_laws}
-use Rattle.bits.specs.Bit.{Has}
 use Rattle.bits.proofs.Bit.{has_zero}
 use Rattle.automaton.proofs.Masks.{mark_row}
 use Rattle.automaton.proofs.Connect.{name_built, name_within}

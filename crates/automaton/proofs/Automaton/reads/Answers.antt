@@ -1,6 +1,6 @@
 use Rattle.std.proofs.Common.{subst, arith}
 use Rattle.std.proofs.lemmas.List.{take_more, take_all}
-use Rattle.automaton.specs.Readings.{Word, Reads}
+use Rattle.automaton.specs.Readings.{Word}
 use Rattle.automaton.specs.Tables.{Stands}
 use Rattle.automaton.proofs.Automaton.reads.Goals as goal
 

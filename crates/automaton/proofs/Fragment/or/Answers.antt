@@ -1,4 +1,4 @@
-use Rattle.std.proofs.Common.{refl, rules}
+use Rattle.std.proofs.Common.{rules}
 use Rattle.bits.proofs.Bit.{has_or}
 use Rattle.automaton.proofs.Fragment.or.Goals as goal
 

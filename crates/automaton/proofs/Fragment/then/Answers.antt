@@ -1,4 +1,4 @@
-use Rattle.std.proofs.Common.{refl, rules}
+use Rattle.std.proofs.Common.{rules}
 use Rattle.automaton.proofs.Masks.{or_only}
 use Rattle.automaton.proofs.Fragment.then.Goals as goal
 

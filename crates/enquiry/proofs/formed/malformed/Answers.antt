@@ -1,4 +1,4 @@
-use Rattle.std.proofs.Common.{arith, rules, below_more}
+use Rattle.std.proofs.Common.{arith}
 use Rattle.model.specs.Calls.MalformedAt.{under_two, over_256, too_few, mark_over_8}
 use Rattle.model.proofs.Total.{not_malformed}
 use Rattle.enquiry.proofs.formed.malformed.Goals as goal

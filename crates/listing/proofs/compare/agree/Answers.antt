@@ -1,4 +1,4 @@
-use Rattle.std.proofs.Common.{◌≡◌, Some, None, sym, refl, ap, ◌∙◌}
+use Rattle.std.proofs.Common.{Some, None, refl, ap, ◌∙◌}
 use Rattle.listing.proofs.Sides.{steps_at, leads_at, nearer, beside_start, beside_on, listed_differ, listed_left, listed_right, listed_same}
 use Rattle.listing.proofs.compare.agree.Goals as goal
 

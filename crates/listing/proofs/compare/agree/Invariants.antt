@@ -1,4 +1,4 @@
-use Rattle.std.proofs.Common.{◌≡◌, ℕ, ◌+◌, ◌-◌, ◌^◌, length}
+use Rattle.std.proofs.Common.{◌≡◌, ◌+◌, ◌-◌, ◌^◌, length}
 use Rattle.listing.specs.Pairs.{place, UnderWay}
 use Rattle.listing.proofs.Sides.{Beside}
 use Rattle.listing.proofs.compare.agree.Given as goal

@@ -1,5 +1,5 @@
-use Rattle.std.proofs.Common.{◌≡◌, ℕ, length, sym, refl, ap, ◌∙◌, subst, arith}
-use Rattle.model.specs.Runs.{Event, pose, next, again, check, resume}
+use Rattle.std.proofs.Common.{◌≡◌, length, sym, refl, ap, ◌∙◌, arith}
+use Rattle.model.specs.Runs.{pose, next, again, check, resume}
 use Rattle.model.specs.Replies.{next_call, check_call, resume_call}
 use Rattle.listing.specs.Events.{call_of, next_told}
 use Rattle.listing.proofs.Turns.{performs, whole_taken}

@@ -1,7 +1,7 @@
-use Rattle.std.proofs.Common.{◌≡◌, List, [], ◌∷◌, ◌++◌, map, vec_items, sym, refl, ap, ◌∙◌, subst, append_assoc, append-nil}
+use Rattle.std.proofs.Common.{List, [], ◌∷◌, ◌++◌, map, vec_items, sym, refl, ap, ◌∙◌, append_assoc, append-nil}
 use Rattle.listing.specs.declared.call.Call.{Call}
 use Rattle.std.specs.Vec.Iter.{into_iter_items}
-use Rattle.listing.specs.Events.{call_of, reply_of}
+use Rattle.listing.specs.Events.{reply_of}
 use Rattle.listing.proofs.Turns.{starts_new, more_calls, all_replayed, none_of}
 use Rattle.listing.proofs.replays.run_calls.Goals as goal
 

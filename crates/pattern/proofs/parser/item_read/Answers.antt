@@ -1,5 +1,4 @@
 use Rattle.std.proofs.Common.{refl, subst}
-use Rattle.automaton.specs.declared.Automaton.{Automaton}
 use Rattle.pattern.specs.Parsing.{Last}
 use Rattle.pattern.specs.declared.parser.Mode.{Mode}
 use Rattle.pattern.proofs.Parsers.{item_named, item_atom, item_item, item_none}

@@ -1,10 +1,8 @@
-use Rattle.std.proofs.Common.{◌≡◌, ℕ, sym, subst}
+use Rattle.std.proofs.Common.{ℕ, sym, subst}
 use Rattle.model.specs.Patterns.{Tree}
 use Rattle.automaton.specs.Tables.{Compiled, Built, Keeps}
 use Rattle.automaton.specs.declared.Automaton.{Automaton}
 use Rattle.automaton.specs.declared.Fragment.{Fragment}
-use Rattle.pattern.specs.Parsing.{Repeated}
-use Rattle.grammar.specs.declared.Times.{Times}
 use Rattle.grammar.specs.declared.Times.TheVariants.{ZeroOrMore, OneOrMore, ZeroOrOne}
 use Rattle.grammar.specs.Grammar.{repeated}
 use Rattle.pattern.proofs.Parsers.{kept_self, built_self}

@@ -1,4 +1,4 @@
-use Rattle.std.proofs.Common.{◌≡◌, get_or, sym, refl, ap, ◌∙◌, arith, length-set}
+use Rattle.std.proofs.Common.{get_or, refl, ap, arith, length-set}
 use Rattle.plan.specs.FiledFacts.{kept}
 use Rattle.plan.proofs.Indexes.{start, more}
 use Rattle.plan.proofs.bytes.index_bodies.Goals as goal

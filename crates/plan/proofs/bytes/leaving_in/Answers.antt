@@ -1,6 +1,6 @@
-use Rattle.std.proofs.Common.{◌≡◌, ℕ, sym, ◌∙◌, subst, arith}
+use Rattle.std.proofs.Common.{ℕ, subst, arith}
 use Rattle.plan.specs.Filed.{LeastAmong, end_of}
-use Rattle.plan.specs.FiledFacts.{Kept, kept, entry_ends, end_fits}
+use Rattle.plan.specs.FiledFacts.{kept, entry_ends, end_fits}
 use Rattle.plan.proofs.Leavings.{least_leaving, none_leaving}
 use Rattle.plan.proofs.bytes.leaving_in.Goals as goal
 

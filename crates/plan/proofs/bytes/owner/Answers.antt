@@ -1,5 +1,4 @@
-use Rattle.std.proofs.Common.{◌≡◌, sym, refl, ap, ◌∙◌, arith}
-use Rattle.plan.specs.Filed.{owner_below, entry_of}
+use Rattle.std.proofs.Common.{◌∙◌, arith}
 use Rattle.plan.specs.FiledFacts.{owner_zero, owner_here, owner_past}
 use Rattle.plan.proofs.bytes.owner.Goals as goal
 use Rattle.plan.proofs.bytes.owner.Goals.{then-word-body, else-word-body}

@@ -1,6 +1,6 @@
-use Rattle.std.proofs.Common.{◌≡◌, sym, refl, ap, ◌∙◌, arith}
-use Rattle.plan.specs.FiledFacts.{kept, Sits}
-use Rattle.plan.proofs.Indexes.{at_none, at_some, found}
+use Rattle.std.proofs.Common.{arith}
+use Rattle.plan.specs.FiledFacts.{kept}
+use Rattle.plan.proofs.Indexes.{at_none, at_some}
 use Rattle.plan.proofs.bytes.passage_in.Goals as goal
 
 pub returns-then-body-gt255 : goal.returns-then-body-gt255

@@ -1,4 +1,4 @@
-use Rattle.std.proofs.Common.{◌≡◌, ℕ, List, ◌∙◌, subst}
+use Rattle.std.proofs.Common.{◌∙◌, subst}
 use Rattle.reader.specs.Tokens.{TokenAt, named}
 use Rattle.reader.proofs.symbol.next_symbol.Goals as goal
 

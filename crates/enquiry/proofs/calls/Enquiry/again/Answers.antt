@@ -1,4 +1,4 @@
-use Rattle.std.proofs.Common.{◌≡◌, sym, refl, ap, ◌∙◌}
+use Rattle.std.proofs.Common.{refl}
 use Rattle.enquiry.proofs.Cursors.{again_refused, again_accepted}
 use Rattle.enquiry.proofs.calls.Enquiry.again.Goals as goal
 

@@ -1,6 +1,6 @@
-use Rattle.std.proofs.Common.{◌≡◌, ◌≤◌, sym, refl, ap, ◌∙◌, arith}
+use Rattle.std.proofs.Common.{◌≡◌, ap, ◌∙◌, arith}
 use Rattle.route.specs.Reading.{track_of}
-use Rattle.enquiry.proofs.Deepen.{found, none, all_tried, told_same, Under}
+use Rattle.enquiry.proofs.Deepen.{found, none, all_tried, told_same}
 use Rattle.enquiry.proofs.calls.Enquiry.least_length.Goals as goal
 
 pub returns-then-advance : goal.returns-then-advance

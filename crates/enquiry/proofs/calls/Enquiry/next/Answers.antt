@@ -1,4 +1,4 @@
-use Rattle.std.proofs.Common.{◌≡◌, sym, refl, ap, ◌∙◌, arith}
+use Rattle.std.proofs.Common.{refl, ◌∙◌}
 use Rattle.enquiry.proofs.Cursors.{next_refused, next_room, next_none, next_some, leads_on}
 use Rattle.enquiry.proofs.calls.Enquiry.next.Goals as goal
 

@@ -1,9 +1,4 @@
-use Rattle.std.proofs.Common.{◌≡◌, ℕ, ◌<◌, Bool, sym, refl, ap, ◌∙◌, subst, arith}
-use Rattle.model.specs.Patterns.{Tree}
-use Rattle.automaton.specs.Tables.{Recognises}
-use Rattle.model.specs.declared.Choice.{Choice}
-use Rattle.model.specs.declared.Choice.TheVariants.{All, Shortest}
-use Rattle.enquiry.specs.Promises.{asked, Capped}
+use Rattle.std.proofs.Common.{◌<◌, refl, ap, ◌∙◌, arith}
 use Rattle.enquiry.specs.declared.calls.Enquiry.{Enquiry}
 use Rattle.enquiry.proofs.Cursors.{pose_start, pose_target, pose_accepted, cap_all, cap_short}
 use Rattle.enquiry.proofs.calls.Enquiry.pose.Goals as goal

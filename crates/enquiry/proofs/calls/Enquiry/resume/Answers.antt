@@ -1,4 +1,4 @@
-use Rattle.std.proofs.Common.{◌≡◌, sym, refl, ap, ◌∙◌}
+use Rattle.std.proofs.Common.{refl}
 use Rattle.enquiry.proofs.Judged.{formed_two, resume_refused, resume_faulty, resume_none, resume_some}
 use Rattle.enquiry.proofs.calls.Enquiry.resume.Goals as goal
 

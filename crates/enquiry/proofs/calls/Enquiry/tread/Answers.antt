@@ -1,4 +1,4 @@
-use Rattle.std.proofs.Common.{◌≡◌, ◌<◌, ◌⊎◌, sym, refl, ap, ◌∙◌, subst, inl, inr, ⊎_elim, arith}
+use Rattle.std.proofs.Common.{◌<◌, sym, ◌∙◌, ⊎_elim, arith}
 use Rattle.route.specs.Reading.{track_of, taken_at}
 use Rattle.route.proofs.Views.{length_taken}
 use Rattle.bridge.proofs.Walk.{reach_bounds}

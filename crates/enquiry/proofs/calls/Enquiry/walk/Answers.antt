@@ -1,7 +1,7 @@
-use Rattle.std.proofs.Common.{◌≡◌, ◌<◌, ◌≤◌, true, false, get_or, sym, refl, ap, ◌∙◌, subst, arith, rules}
+use Rattle.std.proofs.Common.{sym, ◌∙◌, arith}
 use borrow.Author.Tests.{clash}
 use Rattle.route.specs.Reading.{track_of}
-use Rattle.enquiry.proofs.Ways.{begins, goes_on, stuck, elsewhere, no_end, arrives}
+use Rattle.enquiry.proofs.Ways.{begins, goes_on, stuck, no_end}
 use Rattle.enquiry.proofs.calls.Enquiry.walk.Goals as goal
 
 pub loop-i-init : goal.loop-i-init

@@ -1,4 +1,4 @@
-use Rattle.std.proofs.Common.{◌≡◌, refl, ap, subst}
+use Rattle.std.proofs.Common.{refl, ap}
 use Rattle.grammar.specs.Machine as machine
 use Rattle.pattern.proofs.Parsers.{no_caret, careted_goes}
 use Rattle.pattern.proofs.parser.Parser.caret.Goals as goal

@@ -1,9 +1,9 @@
-use Rattle.std.proofs.Common.{◌≡◌, ℕ, ◌+◌, ◌<◌, ◌≤◌, sym, refl, ap, ◌∙◌, subst, arith}
+use Rattle.std.proofs.Common.{ℕ, refl, ap, subst, arith}
 use Rattle.std.proofs.lemmas.Result.{err_from_is_err_and}
 use Rattle.model.specs.Patterns as model
 use Rattle.grammar.specs.Machine as machine
 use Rattle.automaton.specs.Tables.{Compiled}
-use Rattle.pattern.specs.Parsing.{Last, is_atom}
+use Rattle.pattern.specs.Parsing.{is_atom}
 use Rattle.pattern.proofs.Parsers.{with_mode, last_due}
 use Rattle.pattern.proofs.parser.Parser.empty.Goals as goal
 

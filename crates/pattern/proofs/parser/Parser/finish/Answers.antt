@@ -1,4 +1,4 @@
-use Rattle.std.proofs.Common.{◌≡◌, refl, ap, arith}
+use Rattle.std.proofs.Common.{refl, arith}
 use Rattle.std.proofs.lemmas.Result.{err_from_is_err_and}
 use Rattle.pattern.proofs.Parsers.{finish_none, some_open, ended}
 use Rattle.pattern.proofs.parser.Parser.finish.Goals as goal

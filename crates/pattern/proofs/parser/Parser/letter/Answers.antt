@@ -1,4 +1,4 @@
-use Rattle.std.proofs.Common.{◌≡◌, refl, ap, subst, arith}
+use Rattle.std.proofs.Common.{refl, ap, subst}
 use Rattle.grammar.specs.Machine as machine
 use Rattle.pattern.specs.Parsing.{Last}
 use Rattle.pattern.specs.declared.parser.Mode.{Mode}

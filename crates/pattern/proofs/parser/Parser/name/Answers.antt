@@ -1,7 +1,7 @@
-use Rattle.std.proofs.Common.{◌≡◌, ℕ, ◌+◌, ◌<◌, ◌≤◌, None, sym, refl, ap, ◌∙◌, arith}
+use Rattle.std.proofs.Common.{refl, ap, arith}
 use Rattle.std.proofs.lemmas.Result.{err_from_is_err_and}
 use Rattle.grammar.specs.Machine as machine
-use Rattle.pattern.specs.Parsing.{Last, is_due, is_named}
+use Rattle.pattern.specs.Parsing.{is_named}
 use Rattle.pattern.proofs.Parsers.{with_mode, some_none, last_due}
 use Rattle.pattern.proofs.parser.Parser.name.Goals as goal
 

@@ -1,4 +1,4 @@
-use Rattle.std.proofs.Common.{◌≡◌, ℕ, suc, ◌+◌, ◌<◌, true, false, is_some, Some, None, Option, sym, ap, ◌∙◌, subst, ⊎_elim, le_of_suc-le-suc, eq-or-lt_of_le, arith}
+use Rattle.std.proofs.Common.{◌≡◌, ℕ, false, is_some, Some, None, Option, ap, ◌∙◌, subst, ⊎_elim, eq-or-lt_of_le, arith}
 use borrow.Author.Tests.{clash}
 use Rattle.model.specs.Plans.{Passage, LeavesBy, Leaves, triple}
 use Rattle.plan.specs.Grid.{grid_passage}

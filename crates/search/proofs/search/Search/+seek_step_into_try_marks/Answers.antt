@@ -1,11 +1,10 @@
-use Rattle.std.proofs.Common.{◌≡◌, ℕ, suc, ◌<◌, ◌⊎◌, length, sym, refl, ap, ◌∙◌, inl, inr, ⊎_elim, arith, rules}
-use Rattle.search.specs.Spaces.{Code, Space, Only, Marks, Onward, Between, Under, Nothing, Sought}
+use Rattle.std.proofs.Common.{◌<◌, sym, refl, ap, ◌∙◌, inl, inr, arith}
 use Rattle.search.specs.Hunts.{space_of}
 use Rattle.route.specs.Reading.{track_of, taken_at}
 use Rattle.route.specs.Tracks.{popped}
 use Rattle.route.proofs.Views.{length_taken, len_same, len_push}
-use Rattle.search.proofs.Searches.{kept, nothing, sought_nothing, only_none, only_here, only_below, only_dead, settle, nothing_join, sought_at, marks_found, marks_on, final_at}
-use Rattle.search.proofs.Reaches.{reach_open, answer_open, marks_end, seek_end, seek_found, seek_on, leaves_at}
+use Rattle.search.proofs.Searches.{kept, nothing, sought_nothing, only_none, only_here, only_below, only_dead, sought_at, marks_found, marks_on, final_at}
+use Rattle.search.proofs.Reaches.{reach_open, marks_end, seek_end, seek_found, seek_on, leaves_at}
 use Rattle.search.proofs.search.Search.+seek_step_into_try_marks.Goals as goal
 use Rattle.search.proofs.search.Search.+seek_step_into_try_marks.Goals.{seek-then-found-passage, seek-else-found-passage, step_into-then-is_answer-via-then-is_answer, step_into-then-is_answer-via-else-is_answer+then-seek}
 

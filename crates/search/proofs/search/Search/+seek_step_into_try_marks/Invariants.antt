@@ -1,5 +1,5 @@
-use Rattle.std.proofs.Common.{◌≡◌, ℕ, ◌+◌, ◌-◌, ◌*◌, ◌<◌, ◌≤◌}
-use Rattle.search.specs.Spaces.{Code, Space, Nothing, Between, Under}
+use Rattle.std.proofs.Common.{◌≡◌, ◌+◌, ◌-◌, ◌*◌, ◌≤◌}
+use Rattle.search.specs.Spaces.{Nothing, Between, Under}
 use Rattle.search.specs.Hunts.{space_of}
 use Rattle.route.specs.Reading.{track_of}
 use Rattle.search.proofs.search.Search.+seek_step_into_try_marks.Given as goal

@@ -1,9 +1,9 @@
-use Rattle.std.proofs.Common.{◌≡◌, true, false, ◌⊎◌, sym, refl, ap, ◌∙◌, inl, inr, rules}
+use Rattle.std.proofs.Common.{true, false, sym, refl, ◌∙◌, inl, inr}
 use Rattle.search.specs.Hunts.{space_of}
-use Rattle.route.specs.Reading.{track_of, taken_at, taken_of}
+use Rattle.route.specs.Reading.{taken_at, taken_of}
 use Rattle.search.proofs.Searches.{not_both}
 use Rattle.route.proofs.Views.{taken_none}
-use Rattle.search.proofs.Deliver.{Passed, deliver_start, deliver_found, deliver_none}
+use Rattle.search.proofs.Deliver.{deliver_start, deliver_found, deliver_none}
 use Rattle.search.proofs.search.Search.advance.Goals as goal
 use Rattle.search.proofs.search.Search.advance.Goals.{else-not-self-via-then-not-self+else-is_answer, else-not-self-via-else-not-self}
 

@@ -1,13 +1,13 @@
-use Rattle.std.proofs.Common.{◌≡◌, ℕ, ◌+◌, ◌-◌, ◌%◌, ◌<◌, get_or, sym, refl, ap, ◌∙◌, subst, arith}
+use Rattle.std.proofs.Common.{◌≡◌, ◌-◌, ◌%◌, ◌<◌, get_or, refl, ap, ◌∙◌, arith}
 use Rattle.search.specs.Hunts.{space_of}
-use Rattle.route.specs.Reading.{track_of, taken_at}
+use Rattle.route.specs.Reading.{track_of}
 use Rattle.route.specs.Tracks.{Track}
 use Rattle.search.specs.Listings.{codes_of}
 use Rattle.search.proofs.Searches.{kept}
 use Rattle.route.proofs.Views.{len_same, len_pop}
 use Rattle.search.proofs.Reaches.{reach_open}
-use Rattle.search.proofs.Follow.{Rest, rest_mark, rest_start, followed_true, followed_false}
-use Rattle.search.proofs.Turns.{turn_found, turn_none, turn_stands, turn_pop, turn_starts}
+use Rattle.search.proofs.Follow.{rest_mark, rest_start, followed_true, followed_false}
+use Rattle.search.proofs.Turns.{turn_found, turn_none, turn_stands, turn_pop}
 use Rattle.search.proofs.search.Search.follow.Goals as goal
 
 pub loop-passage-init : goal.loop-passage-init

@@ -1,4 +1,4 @@
-use Rattle.std.proofs.Common.{◌≡◌, true, false, sym, refl, ap, ◌∙◌, rules}
+use Rattle.std.proofs.Common.{true, false, sym, ap, ◌∙◌}
 use Rattle.search.specs.Hunts.{space_of}
 use Rattle.route.specs.Reading.{track_of, taken_at}
 use Rattle.search.proofs.Reaches.{reach_read, reach_none}
