@@ -7,7 +7,7 @@
 #![tactic(auto)]
 
 ghost use Rattle.std.specs.Prelude.{◌≡◌, ℕ, ◌+◌, ◌<◌, ◌≤◌, true, ◌⊎◌, ◌↔◌, [], ◌∷◌, ◌++◌, length, slice_index};
-ghost use Rattle.model.specs.Patterns.{Tree, name as oneName, empty as nothing, star, plus, maybe, Fits};
+ghost use Rattle.model.specs.Patterns.{Tree, name as one_name, empty as nothing, star, plus, maybe, Fits};
 ghost use Rattle.model.specs.Records.{letter};
 ghost use Rattle.bits.specs.Bit.{Has};
 ghost use Rattle.automaton.specs.Readings.{Word, Reads};
@@ -123,7 +123,7 @@ impl Automaton {
         requires { (self.old.count < 31) × ((mark < 9) × ((Known label) × (Within self.old))) }
         ensures count { self.new.count ≡ self.old.count + 1 }
         ensures within { Within self.new }
-        ensures built { Built self.old self.new result self.old.count (self.old.count + 1) (oneName label (letter mark)) }
+        ensures built { Built self.old self.new result self.old.count (self.old.count + 1) (one_name label (letter mark)) }
     {
         let p = self.count;
         let bit = 1u32 << p;

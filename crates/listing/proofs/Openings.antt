@@ -8,7 +8,7 @@ use Rattle.model.specs.Patterns.{Tree}
 use Rattle.model.specs.Questions.{EnquiryMeaning, Question}
 use Rattle.model.specs.Calls.{State, unposed, posed, at_front, Pose}
 use Rattle.model.specs.Calls as calls
-use Rattle.model.specs.Calls.Pose.{no_start as starts-nowhere, no_target as ends_nowhere, poses}
+use Rattle.model.specs.Calls.Pose.{no_start as starts_nowhere, no_target as ends_nowhere, poses}
 use Rattle.automaton.specs.Tables.{Recognises}
 use Rattle.automaton.specs.declared.Automaton.{Automaton}
 use Rattle.pattern.specs.Texts.{Gives}
@@ -28,7 +28,7 @@ done : (n : EnquiryMeaning) (s : State) (start target : ℕ) (choice : Choice) (
 done n s start target choice u s' (poses g h) = record { stands = refl; low_start = g; low_target = h }
 
 refused : (pl : PlanMeaning) (ru : RuleMeaning) (text : List ℕ) (t : Tree) (s : State) (start target : ℕ) (choice : Choice) (f : Fault) (s' : State) → Gives text t → Pose (asked pl ru t) s start target choice (Err f) s' → RefusedFor (full pl ru text start target choice) f
-refused pl ru text t s start target choice f s' g (starts-nowhere h) = no_start t g h
+refused pl ru text t s start target choice f s' g (starts_nowhere h) = no_start t g h
 refused pl ru text t s start target choice f s' g (ends_nowhere h k) = no_target t g h k
 
 promise_at : {pl pl' : PlanMeaning} {ru ru' : RuleMeaning} {a a' : Automaton} (d e : Cursor) (Does : EnquiryMeaning → State → State → Type 0) → pl' ≡ pl → ru' ≡ ru → a' ≡ a → Promise pl' ru' a' d e Does → Promise pl ru a d e Does

@@ -1,6 +1,6 @@
 //! Calls and replies as values.
 ghost use Rattle.std.specs.Prelude.{◌≡◌};
-ghost use Rattle.listing.specs.declared.call.Trouble.TheVariants.{Memory, Refused as Turned-down};
+ghost use Rattle.listing.specs.declared.call.Trouble.TheVariants.{Memory, Refused as TurnedDown};
 
 use fault::Fault;
 use model::Choice;
@@ -44,7 +44,7 @@ impl From<AllocError> for Trouble {
 }
 
 impl From<Fault> for Trouble {
-    ghost from_gives = { λ f r. r ≡ Turned-down f };
+    ghost from_gives = { λ f r. r ≡ TurnedDown f };
 
     fn from(fault: Fault) -> Trouble {
         Trouble::Refused(fault)

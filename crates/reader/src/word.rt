@@ -21,6 +21,7 @@ pub enum Word {
     Empty,
 }
 
+#[tactic(auto, using(crate::proofs::Spelled::spelled3, crate::proofs::Spelled::spelled4, crate::proofs::Spelled::spelled5))]
 pub fn look_up(name: &[u8], place: usize) -> Result<Word, PatternFault>
     ensures { MatchResult result (λ w. spelling w ≡ name.now) (λ f. (f ≡ Unknown place) × ((w : Word) → spelling w ≢ name.now)) }
 {

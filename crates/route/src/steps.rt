@@ -1,6 +1,6 @@
 //! The record as a stack of steps, and what a rule asks of it.
 ghost use Rattle.std.specs.Prelude.{◌≡◌, ℕ, ◌<◌, ◌≤◌, length, nat_lt};
-ghost use Rattle.model.specs.Routes.{end as end-zone, passages as passages-of};
+ghost use Rattle.model.specs.Routes.{end as end_zone, passages as passages_of};
 ghost use Rattle.model.specs.Rules.{mem};
 ghost use Rattle.route.specs.Tracks.{extend, popped, last_zone, last_mask, longer, shorter};
 ghost use Rattle.route.specs.Reading.{route_of, track_of, reached_zones, open_ended, LastAt, Written};
@@ -32,7 +32,7 @@ impl Route {
     /// The zone in which the route ends.
     pub fn here(&self) -> u8
         ensures track { result ≡ last_zone self.now.start (track_of self.now).steps }
-        ensures route { result ≡ end-zone (route_of self.now) }
+        ensures route { result ≡ end_zone (route_of self.now) }
     {
         match self.last() {
             Some(last) => self.zones[last],
@@ -99,7 +99,7 @@ impl Route {
 
     /// Whether the route uses the passage.
     pub fn uses(&self, passage: u8) -> bool
-        ensures { result ≡ mem passage (passages-of (route_of self.now)) }
+        ensures { result ≡ mem passage (passages_of (route_of self.now)) }
     {
         for step in 0..self.len {
             if self.passages[step] == passage {
