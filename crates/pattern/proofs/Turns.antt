@@ -163,7 +163,7 @@ module _ (text : List ℕ) (from : ℕ) (p : Parser) (h : Sofar text from p) whe
   pub again : (after : Parser) (s : Symbol) (place to : ℕ) → SymbolAt text from s place to → Goes h.levels h.sequences h.items h.last s (names_of h.symbols) after → Sofar text to after
   again after s place to a g =
       let names : names_of (h.symbols ++ s ∷ []) ≡ counted s (names_of h.symbols) = names_more 0 h.symbols (s ∷ []) in
-      let now-open : open_of (h.symbols ++ s ∷ []) ≡ length g.levels = open_more 0 h.symbols (s ∷ []) ∙ ap (opened s) h.deep ∙ sym (subst (Deeper s (length h.levels)) g.step (deeper h.levels h.sequences h.items h.last s)) in
+      let now_open : open_of (h.symbols ++ s ∷ []) ≡ length g.levels = open_more 0 h.symbols (s ∷ []) ∙ ap (opened s) h.deep ∙ sym (subst (Deeper s (length h.levels)) g.step (deeper h.levels h.sequences h.items h.last s)) in
       let depth : after.depth ≡ length g.levels = levels_length after.automaton g.shows.lo after.levels after.depth g.levels g.shows.levels in
       let ran : run (Some start) (h.symbols ++ s ∷ []) ≡ Some (at g.levels g.sequences g.items g.last) = one_more s ∙ g.step in
       record {
@@ -181,7 +181,7 @@ module _ (text : List ℕ) (from : ℕ) (p : Parser) (h : Sofar text from p) whe
         last = g.last;
         ran = ran;
         shows = subst (λ n. Shows after n g.levels g.sequences g.items g.last) (sym names) g.shows;
-        deep = now-open;
+        deep = now_open;
       }
     where
       shallow : open_of (h.symbols ++ s ∷ []) ≤ 16 → (us : List Symbol) → (us ≡ h.symbols ++ s ∷ []) ⊎ ((ws : List Symbol) × (h.symbols ≡ us ++ ws)) → open_of us ≤ 16
