@@ -1,10 +1,6 @@
-use Rattle.std.proofs.Common.{◌≡◌, ℕ, ◌+◌, ◌<◌, ◌≤◌, ◌⊎◌, ◌↔◌, List, [], ◌∷◌, ◌++◌, sym, refl, ap, subst, inl, inr, arith}
-use native.Mathlib.Decide.{dec_lt}
+use Rattle.std.proofs.Common.{◌≡◌, ℕ, ◌+◌, ◌≤◌, ◌⊎◌, ◌↔◌, List, [], ◌∷◌, ◌++◌, sym, refl, ap, subst, inl, inr, arith}
 use Rattle.automaton.specs.Readings.{Many, none, more, Chained}
-use Rattle.automaton.specs.Run.{Set, Edges, Run, Frag, Accept, In, Means, Stepped}
-
-lt_or_ge : (a b : ℕ) → (a < b) ⊎ (b ≤ a)
-lt_or_ge a b = elim (dec_lt a b) [ yes h ↦ inl h | no h ↦ inr (omega arith) ]
+use Rattle.automaton.specs.Run.{Set, Edges, Run, Frag, Accept, In, Means, then_frag, or_frag, star_frag, Stepped}
 
 apart : {lo mid hi q : ℕ} → In lo mid q → In mid hi q → ⊥
 apart a b = omega arith
@@ -50,38 +46,31 @@ module _ {A : Type 0} (At : ℕ → A → Type 0) where
     abbrev pub seq_edges : Edges
     seq_edges s q = E s q ⊎ (f.last s × g.first q)
 
-    abbrev pub seq_frag : Frag
-    seq_frag = record {
-      null = f.null × g.null;
-      first = λ q. f.first q ⊎ (f.null × g.first q);
-      last = λ q. g.last q ⊎ (g.null × f.last q);
-    }
-
-    seq_join_run : (u v : List A) (q : ℕ) → Run At E f.last q u → Accept At E g v → Run At seq_edges seq_frag.last q (u ++ v)
+    seq_join_run : (u v : List A) (q : ℕ) → Run At E f.last q u → Accept At E g v → Run At seq_edges (then_frag f g).last q (u ++ v)
     seq_join_run [] [] q r a = inr (a, r)
-    seq_join_run [] (y ∷ v) q r (s, b, a, t) = (s, inr (r, b), a, run_map (λ _. Unit {0}) E seq_edges g.last seq_frag.last (λ _ _ _ e. (inl e, tt)) (λ _ _ l. inl l) v s tt t)
+    seq_join_run [] (y ∷ v) q r (s, b, a, t) = (s, inr (r, b), a, run_map (λ _. Unit {0}) E seq_edges g.last (then_frag f g).last (λ _ _ _ e. (inl e, tt)) (λ _ _ l. inl l) v s tt t)
     seq_join_run (x ∷ u) v q (s, e, a, r) t = (s, inl e, a, seq_join_run u v s r t)
 
-    seq_join : (u v : List A) → Accept At E f u → Accept At E g v → Accept At seq_edges seq_frag (u ++ v)
+    seq_join : (u v : List A) → Accept At E f u → Accept At E g v → Accept At seq_edges (then_frag f g) (u ++ v)
     seq_join [] [] n m = (n, m)
-    seq_join [] (y ∷ v) n (s, b, a, t) = (s, inr (n, b), a, run_map (λ _. Unit {0}) E seq_edges g.last seq_frag.last (λ _ _ _ e. (inl e, tt)) (λ _ _ l. inl l) v s tt t)
+    seq_join [] (y ∷ v) n (s, b, a, t) = (s, inr (n, b), a, run_map (λ _. Unit {0}) E seq_edges g.last (then_frag f g).last (λ _ _ _ e. (inl e, tt)) (λ _ _ l. inl l) v s tt t)
     seq_join (x ∷ u) v (s, b, a, r) t = (s, inl b, a, seq_join_run u v s r t)
 
     module _ (I J : Set) (apart_at : (q : ℕ) → I q → J q → ⊥)
         (fl : (q : ℕ) → f.last q → I q) (fe : (s q : ℕ) → I s → E s q → I q)
         (gf : (q : ℕ) → g.first q → J q) (gl : (q : ℕ) → g.last q → J q) (ge : (s q : ℕ) → J s → E s q → J q) where
-      seq_second : (w : List A) (q : ℕ) → J q → Run At seq_edges seq_frag.last q w → Run At E g.last q w
-      seq_second w q j r = run_map J seq_edges E seq_frag.last g.last edge end w q j r
+      seq_second : (w : List A) (q : ℕ) → J q → Run At seq_edges (then_frag f g).last q w → Run At E g.last q w
+      seq_second w q j r = run_map J seq_edges E (then_frag f g).last g.last edge end w q j r
         where
           edge : (s t : ℕ) → J s → seq_edges s t → E s t × J t
           edge s t k (inl e) = (e, ge s t k e)
           edge s t k (inr (l, b)) = absurd (apart_at s (fl s l) k)
 
-          end : (s : ℕ) → J s → seq_frag.last s → g.last s
+          end : (s : ℕ) → J s → (then_frag f g).last s → g.last s
           end s k (inl l) = l
           end s k (inr (n, l)) = absurd (apart_at s (fl s l) k)
 
-      seq_split_run : (w : List A) (q : ℕ) → I q → Run At seq_edges seq_frag.last q w → Chained (Run At E f.last q) (Accept At E g) w
+      seq_split_run : (w : List A) (q : ℕ) → I q → Run At seq_edges (then_frag f g).last q w → Chained (Run At E f.last q) (Accept At E g) w
       seq_split_run [] q i (inl l) = absurd (apart_at q i (gl q l))
       seq_split_run [] q i (inr (n, l)) = ([], [], refl, l, n)
       seq_split_run (x ∷ w) q i (s, inl e, a, r) =
@@ -89,90 +78,58 @@ module _ {A : Type 0} (At : ℕ → A → Type 0) where
           (x ∷ u, v, ap (λ y. x ∷ y) p, (s, e, a, r₁), r₂)
       seq_split_run (x ∷ w) q i (s, inr (l, b), a, r) = ([], x ∷ w, refl, l, (s, b, a, seq_second w s (gf s b) r))
 
-      seq_split : ((q : ℕ) → f.first q → I q) → (w : List A) → Accept At seq_edges seq_frag w → Chained (Accept At E f) (Accept At E g) w
+      seq_split : ((q : ℕ) → f.first q → I q) → (w : List A) → Accept At seq_edges (then_frag f g) w → Chained (Accept At E f) (Accept At E g) w
       seq_split ff [] (n, m) = ([], [], refl, n, m)
       seq_split ff (x ∷ w) (s, inl b, a, r) =
           let (u, v, p, r₁, r₂) = seq_split_run w s (ff s b) r in
           (x ∷ u, v, ap (λ y. x ∷ y) p, (s, b, a, r₁), r₂)
       seq_split ff (x ∷ w) (s, inr (n, b), a, r) = ([], x ∷ w, refl, n, (s, b, a, seq_second w s (gf s b) r))
 
-  widen_l : {lo mid hi q : ℕ} → mid ≤ hi → In lo mid q → In lo hi q
-  widen_l h i = omega arith
-
-  widen_r : {lo mid hi q : ℕ} → lo ≤ mid → In mid hi q → In lo hi q
-  widen_r h i = omega arith
-
   pub means_seq : {E : Edges} {f g : Frag} {lo mid hi : ℕ} {P Q : List A → Type 0} → lo ≤ mid → mid ≤ hi
-      → Means At E f lo mid P → Means At E g mid hi Q → Means At (seq_edges E f g) (seq_frag E f g) lo hi (Chained P Q)
+      → Means At E f lo mid P → Means At E g mid hi Q → Means At (seq_edges E f g) (then_frag f g) lo hi (Chained P Q)
   means_seq {E} {f} {g} {lo} {mid} {hi} {P} {Q} h k m n = record {
-    first_in = firsts;
-    last_in = lasts;
-    follow_in = follows;
+    first_in = λ q b. grind (arith, m.first_in q, n.first_in q);
+    last_in = λ q b. grind (arith, m.last_in q, n.last_in q);
+    follow_in = λ s q i e. grind (arith, m.follow_in s q, n.follow_in s q, n.first_in q);
     sound = λ w a. let (u, v, p, x, y) = split w a in (u, v, p, m.sound u x, n.sound v y);
-    complete = λ w j. let (u, v, p, x, y) = j in subst (λ (z : List A). Accept At (seq_edges E f g) (seq_frag E f g) z) (sym p) (seq_join E f g u v (m.complete u x) (n.complete v y));
+    complete = λ w j. let (u, v, p, x, y) = j in subst (λ (z : List A). Accept At (seq_edges E f g) (then_frag f g) z) (sym p) (seq_join E f g u v (m.complete u x) (n.complete v y));
   }
     where
-      split : (w : List A) → Accept At (seq_edges E f g) (seq_frag E f g) w → Chained (Accept At E f) (Accept At E g) w
+      split : (w : List A) → Accept At (seq_edges E f g) (then_frag f g) w → Chained (Accept At E f) (Accept At E g) w
       split = seq_split E f g (In lo mid) (In mid hi) (λ q a b. apart a b) m.last_in m.follow_in n.first_in n.last_in n.follow_in m.first_in
 
-      firsts : (q : ℕ) → (seq_frag E f g).first q → In lo hi q
-      firsts q (inl b) = widen_l k (m.first_in q b)
-      firsts q (inr (_, b)) = widen_r h (n.first_in q b)
-
-      lasts : (q : ℕ) → (seq_frag E f g).last q → In lo hi q
-      lasts q (inl b) = widen_r h (n.last_in q b)
-      lasts q (inr (_, b)) = widen_l k (m.last_in q b)
-
-      follows : (s q : ℕ) → In lo hi s → seq_edges E f g s q → In lo hi q
-      follows s q i (inl e) = elim (lt_or_ge s mid) [ inl a ↦ widen_l k (m.follow_in s q (i.0, a) e) | inr b ↦ widen_r h (n.follow_in s q (b, i.1) e) ]
-      follows s q i (inr (_, b)) = widen_r h (n.first_in q b)
-
   -- ---- either of two fragments
-  abbrev pub alt_frag : Frag → Frag → Frag
-  alt_frag f g = record { null = f.null ⊎ g.null; first = λ q. f.first q ⊎ g.first q; last = λ q. f.last q ⊎ g.last q }
+  alt_l : (E : Edges) (f g : Frag) (w : List A) → Accept At E f w → Accept At E (or_frag f g) w
+  alt_l E f g = accept_move At At (λ _. Unit {0}) E E f (or_frag f g) (λ _ _ _ a. a) inl (λ _ b. (inl b, tt)) (λ _ _ _ e. (e, tt)) (λ _ _ l. inl l)
 
-  alt_l : (E : Edges) (f g : Frag) (w : List A) → Accept At E f w → Accept At E (alt_frag f g) w
-  alt_l E f g = accept_move At At (λ _. Unit {0}) E E f (alt_frag f g) (λ _ _ _ a. a) inl (λ _ b. (inl b, tt)) (λ _ _ _ e. (e, tt)) (λ _ _ l. inl l)
-
-  alt_r : (E : Edges) (f g : Frag) (w : List A) → Accept At E g w → Accept At E (alt_frag f g) w
-  alt_r E f g = accept_move At At (λ _. Unit {0}) E E g (alt_frag f g) (λ _ _ _ a. a) inr (λ _ b. (inr b, tt)) (λ _ _ _ e. (e, tt)) (λ _ _ l. inr l)
+  alt_r : (E : Edges) (f g : Frag) (w : List A) → Accept At E g w → Accept At E (or_frag f g) w
+  alt_r E f g = accept_move At At (λ _. Unit {0}) E E g (or_frag f g) (λ _ _ _ a. a) inr (λ _ b. (inr b, tt)) (λ _ _ _ e. (e, tt)) (λ _ _ l. inr l)
 
   pub means_alt : {E : Edges} {f g : Frag} {lo mid hi : ℕ} {P Q : List A → Type 0} → lo ≤ mid → mid ≤ hi
-      → Means At E f lo mid P → Means At E g mid hi Q → Means At E (alt_frag f g) lo hi (λ w. P w ⊎ Q w)
+      → Means At E f lo mid P → Means At E g mid hi Q → Means At E (or_frag f g) lo hi (λ w. P w ⊎ Q w)
   means_alt {E} {f} {g} {lo} {mid} {hi} {P} {Q} h k m n = record {
-    first_in = firsts;
-    last_in = lasts;
-    follow_in = follows;
+    first_in = λ q b. grind (arith, m.first_in q, n.first_in q);
+    last_in = λ q b. grind (arith, m.last_in q, n.last_in q);
+    follow_in = λ s q i e. grind (arith, m.follow_in s q, n.follow_in s q);
     sound = sounds;
     complete = completes;
   }
     where
-      firsts : (q : ℕ) → (alt_frag f g).first q → In lo hi q
-      firsts q (inl b) = widen_l k (m.first_in q b)
-      firsts q (inr b) = widen_r h (n.first_in q b)
-
-      lasts : (q : ℕ) → (alt_frag f g).last q → In lo hi q
-      lasts q (inl b) = widen_l k (m.last_in q b)
-      lasts q (inr b) = widen_r h (n.last_in q b)
-
-      follows : (s q : ℕ) → In lo hi s → E s q → In lo hi q
-      follows s q i e = elim (lt_or_ge s mid) [ inl a ↦ widen_l k (m.follow_in s q (i.0, a) e) | inr b ↦ widen_r h (n.follow_in s q (b, i.1) e) ]
-
-      end_l : (q : ℕ) → In lo mid q → (alt_frag f g).last q → f.last q
+      end_l : (q : ℕ) → In lo mid q → (or_frag f g).last q → f.last q
       end_l q i (inl l) = l
       end_l q i (inr l) = absurd (apart i (n.last_in q l))
 
-      end_r : (q : ℕ) → In mid hi q → (alt_frag f g).last q → g.last q
+      end_r : (q : ℕ) → In mid hi q → (or_frag f g).last q → g.last q
       end_r q i (inl l) = absurd (apart (m.last_in q l) i)
       end_r q i (inr l) = l
 
-      sounds : (w : List A) → Accept At E (alt_frag f g) w → P w ⊎ Q w
+      sounds : (w : List A) → Accept At E (or_frag f g) w → P w ⊎ Q w
       sounds [] (inl a) = inl (m.sound [] a)
       sounds [] (inr a) = inr (n.sound [] a)
-      sounds (x ∷ w) (s, inl b, a, r) = inl (m.sound (x ∷ w) (s, b, a, run_map (In lo mid) E E (alt_frag f g).last f.last (λ s q i e. (e, m.follow_in s q i e)) end_l w s (m.first_in s b) r))
-      sounds (x ∷ w) (s, inr b, a, r) = inr (n.sound (x ∷ w) (s, b, a, run_map (In mid hi) E E (alt_frag f g).last g.last (λ s q i e. (e, n.follow_in s q i e)) end_r w s (n.first_in s b) r))
+      sounds (x ∷ w) (s, inl b, a, r) = inl (m.sound (x ∷ w) (s, b, a, run_map (In lo mid) E E (or_frag f g).last f.last (λ s q i e. (e, m.follow_in s q i e)) end_l w s (m.first_in s b) r))
+      sounds (x ∷ w) (s, inr b, a, r) = inr (n.sound (x ∷ w) (s, b, a, run_map (In mid hi) E E (or_frag f g).last g.last (λ s q i e. (e, n.follow_in s q i e)) end_r w s (n.first_in s b) r))
 
-      completes : (w : List A) → P w ⊎ Q w → Accept At E (alt_frag f g) w
+      completes : (w : List A) → P w ⊎ Q w → Accept At E (or_frag f g) w
       completes w (inl p) = alt_l E f g w (m.complete w p)
       completes w (inr p) = alt_r E f g w (n.complete w p)
 
@@ -180,9 +137,6 @@ module _ {A : Type 0} (At : ℕ → A → Type 0) where
   module _ (E : Edges) (f : Frag) where
     abbrev pub loop_edges : Edges
     loop_edges s q = E s q ⊎ (f.last s × f.first q)
-
-    abbrev pub looped_frag : Frag
-    looped_frag = record { null = Unit {0}; first = f.first; last = f.last }
 
     loop_split : (w : List A) (q : ℕ) → Run At loop_edges f.last q w → Chained (Run At E f.last q) (Many (Accept At E f)) w
     loop_split [] q l = ([], [], refl, l, none)
@@ -192,20 +146,20 @@ module _ {A : Type 0} (At : ℕ → A → Type 0) where
         let (u, v, p, r₁, m) = loop_split w s r in
         ([], x ∷ w, refl, l, subst (λ (z : List A). Many (Accept At E f) (x ∷ z)) (sym p) (more {u = x ∷ u} {v = v} (s, b, a, r₁) m))
 
-    loop_join_run : (u v : List A) (q : ℕ) → Run At E f.last q u → Accept At loop_edges looped_frag v → Run At loop_edges f.last q (u ++ v)
+    loop_join_run : (u v : List A) (q : ℕ) → Run At E f.last q u → Accept At loop_edges (star_frag f) v → Run At loop_edges f.last q (u ++ v)
     loop_join_run [] [] q l t = l
     loop_join_run [] (y ∷ v) q l (s, b, a, r) = (s, inr (l, b), a, r)
     loop_join_run (x ∷ u) v q (s, e, a, r) t = (s, inl e, a, loop_join_run u v s r t)
 
-    loop_join : (u v : List A) → Accept At E f u → Accept At loop_edges looped_frag v → Accept At loop_edges looped_frag (u ++ v)
+    loop_join : (u v : List A) → Accept At E f u → Accept At loop_edges (star_frag f) v → Accept At loop_edges (star_frag f) (u ++ v)
     loop_join [] v n t = t
     loop_join (x ∷ u) v (s, b, a, r) t = (s, b, a, loop_join_run u v s r t)
 
-    loop_all : (w : List A) → Many (Accept At E f) w → Accept At loop_edges looped_frag w
+    loop_all : (w : List A) → Many (Accept At E f) w → Accept At loop_edges (star_frag f) w
     loop_all _ none = tt
     loop_all _ (more {u = u} {v = v} a m) = loop_join u v a (loop_all v m)
 
-    star_split : (w : List A) → Accept At loop_edges looped_frag w → Many (Accept At E f) w
+    star_split : (w : List A) → Accept At loop_edges (star_frag f) w → Many (Accept At E f) w
     star_split [] t = none
     star_split (x ∷ w) (s, b, a, r) =
         let (u, v, p, r₁, m) = loop_split w s r in
@@ -216,7 +170,7 @@ module _ {A : Type 0} (At : ℕ → A → Type 0) where
     plus_split (x ∷ w) (s, b, a, r) =
         let (u, v, p, r₁, m) = loop_split w s r in (x ∷ u, v, ap (λ y. x ∷ y) p, (s, b, a, r₁), m)
 
-    plus_join : (u v : List A) → Accept At E f u → Accept At loop_edges looped_frag v → Accept At loop_edges f (u ++ v)
+    plus_join : (u v : List A) → Accept At E f u → Accept At loop_edges (star_frag f) v → Accept At loop_edges f (u ++ v)
     plus_join [] [] n t = n
     plus_join [] (y ∷ v) n t = t
     plus_join (x ∷ u) v (s, b, a, r) t = (s, b, a, loop_join_run u v s r t)
@@ -226,7 +180,7 @@ module _ {A : Type 0} (At : ℕ → A → Type 0) where
     loop_in s q i (inl e) = m.follow_in s q i e
     loop_in s q i (inr (_, b)) = m.first_in q b
 
-    pub means_star : Means At (loop_edges E f) (looped_frag E f) lo hi (Many P)
+    pub means_star : Means At (loop_edges E f) (star_frag f) lo hi (Many P)
     means_star = record {
       first_in = m.first_in;
       last_in = m.last_in;
@@ -244,38 +198,7 @@ module _ {A : Type 0} (At : ℕ → A → Type 0) where
       complete = λ w j. let (u, v, p, x, y) = j in subst (λ (z : List A). Accept At (loop_edges E f) f z) (sym p) (plus_join E f u v (m.complete u x) (loop_all E f v (many_map m.complete v y)));
     }
 
-    opt_sound : (w : List A) → Accept At E (looped_frag E f) w → (w ≡ []) ⊎ P w
-    opt_sound [] _ = inl refl
-    opt_sound (x ∷ w) a = inr (m.sound (x ∷ w) a)
-
-    opt_more : (w : List A) → Accept At E f w → Accept At E (looped_frag E f) w
-    opt_more [] _ = tt
-    opt_more (x ∷ w) a = a
-
-    opt_complete : (w : List A) → (w ≡ []) ⊎ P w → Accept At E (looped_frag E f) w
-    opt_complete w (inl e) = subst (λ (z : List A). Accept At E (looped_frag E f) z) (sym e) tt
-    opt_complete w (inr p) = opt_more w (m.complete w p)
-
-    pub means_opt : Means At E (looped_frag E f) lo hi (λ w. (w ≡ []) ⊎ P w)
-    means_opt = record { first_in = m.first_in; last_in = m.last_in; follow_in = m.follow_in; sound = opt_sound; complete = opt_complete }
-
-  -- ---- nothing, and one name
-  abbrev pub empty_frag : Frag
-  empty_frag = record { null = Unit {0}; first = λ _. ⊥; last = λ _. ⊥ }
-
-  empty_sound : (E : Edges) (w : List A) → Accept At E empty_frag w → w ≡ []
-  empty_sound E [] _ = refl
-  empty_sound E (x ∷ w) (s, b, _, _) = absurd b
-
-  pub means_empty : (E : Edges) (lo : ℕ) → Means At E empty_frag lo lo (λ w. w ≡ [])
-  means_empty E lo = record {
-    first_in = λ q b. absurd b;
-    last_in = λ q b. absurd b;
-    follow_in = λ s q i e. omega arith;
-    sound = empty_sound E;
-    complete = λ w e. subst (λ (z : List A). Accept At E empty_frag z) (sym e) tt;
-  }
-
+  -- ---- one name
   abbrev pub name_frag : ℕ → Frag
   name_frag p = record { null = ⊥; first = λ q. q ≡ p; last = λ q. q ≡ p }
 

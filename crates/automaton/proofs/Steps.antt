@@ -1,5 +1,6 @@
 -- A step as a number, and the states that it leads to.
-use Rattle.std.proofs.Common.{◌≡◌, ℕ, zero, suc, ◌+◌, ◌/◌, ◌^◌, ◌<◌, ◌≤◌, Bool, true, cond, not, eqb, ◌↔◌, List, [], ◌∷◌, ◌++◌, length, get_or, sym, refl, ap, ◌∙◌, subst, append_assoc, append-nil, add-one, arith, eq-eqb, ne_eqb}
+use Rattle.std.proofs.Common.{◌≡◌, ℕ, zero, suc, ◌+◌, ◌/◌, ◌^◌, ◌<◌, Bool, true, cond, not, eqb, ◌↔◌, List, [], ◌∷◌, ◌++◌, length, get_or, sym, refl, ap, ◌∙◌, subst, append_assoc, append-nil, add-one, arith, eq-eqb, ne_eqb}
+use Rattle.std.proofs.lemmas.List.{get_or_past}
 use native.Mathlib.Decide.{dec_lt, ℕ_discrete}
 use lib.Bits.{bit_and, bit_or}
 use borrow.Author.Tests.{eqb-false, not-true}
@@ -35,13 +36,8 @@ gather_has rows mask (suc n) q = go (ℕ_discrete (bit_and (mask / 2 ^ n) 1) 1) 
     go (yes t) h = subst (λ (k : ℕ). Has (gather rows mask k) q ↔ Below rows mask k q) (add-one n) (subst (λ (m : ℕ). Has m q ↔ Below rows mask (n + 1) q) (gather_more rows mask n _ refl t) (rows_more rows mask (gather rows mask n) n h t q))
     go (no t) h = subst (λ (k : ℕ). Has (gather rows mask k) q ↔ Below rows mask k q) (add-one n) (subst (λ (m : ℕ). Has m q ↔ Below rows mask (n + 1) q) (gather_skip rows mask n _ refl t) (rows_skip rows mask (gather rows mask n) n h t q))
 
-pub past_end : (rows : List ℕ) (s : ℕ) → length rows ≤ s → get_or rows s 0 ≡ 0
-past_end [] s l = refl
-past_end (x ∷ rows) zero l = absurd (omega arith)
-past_end (x ∷ rows) (suc s) l = past_end rows s (omega arith)
-
 edge_low : (rows : List ℕ) (s q : ℕ) → Has (get_or rows s 0) q → s < length rows
-edge_low rows s q h = elim (dec_lt s (length rows)) [ yes l ↦ l | no l ↦ absurd (has_zero q (subst (λ (m : ℕ). Has m q) (past_end rows s (omega arith)) h)) ]
+edge_low rows s q h = elim (dec_lt s (length rows)) [ yes l ↦ l | no l ↦ absurd (has_zero q (subst (λ (m : ℕ). Has m q) (get_or_past rows s 0 (omega arith)) h)) ]
 
 pub stepped_moves : (a : Automaton) (mask kind mark q : ℕ) → Has (stepped a mask kind mark) q ↔ Moves a mask (kind, mark) q
 unfolding stepped
@@ -66,26 +62,20 @@ stepped_moves a mask kind mark q = (there, back)
 module _ (a : Automaton) (mask r : ℕ) (x : Pair) (moves : (q : ℕ) → Has r q ↔ Moves a mask x q) where
   -- one more pair behind the word
   pub holds_more : (w : Word) → Holds a w mask → Holds a (w ++ (x ∷ [])) r
-  holds_more w h q = (λ y. snoc.1 (there ((moves q).0 y)), λ y. (moves q).1 (back (snoc.0 y)))
+  holds_more w h q = (
+    λ y. snoc.1 (let ((s, b, e), f) = (moves q).0 y in ((s, (h s).0 b, e), f)),
+    λ y. (moves q).1 (let ((s, b, e), f) = snoc.0 y in ((s, (h s).1 b, e), f)),
+  )
     where
       snoc : Stepped (at a) (edges a) (λ s. s ≡ start) (w ++ (x ∷ [])) q ↔ (((s : ℕ) × Stepped (at a) (edges a) (λ s. s ≡ start) w s × edges a s q) × at a q x)
       snoc = stepped_snoc (at a) (edges a) (λ s. s ≡ start) w x q
 
-      there : Moves a mask x q → ((s : ℕ) × Stepped (at a) (edges a) (λ s. s ≡ start) w s × edges a s q) × at a q x
-      there ((s, b, e), f) = ((s, (h s).0 b, e), f)
-
-      back : ((s : ℕ) × Stepped (at a) (edges a) (λ s. s ≡ start) w s × edges a s q) × at a q x → Moves a mask x q
-      back ((s, b, e), f) = ((s, (h s).1 b, e), f)
-
   -- the states after the pair lead on by what led on behind the pair
   leads_more : (v : Word) → Leads a r v ↔ Leads a mask (x ∷ v)
-  leads_more v = (there, back)
-    where
-      there : Leads a r v → Leads a mask (x ∷ v)
-      there (q, h, run) = let ((s, b, e), f) = (moves q).0 h in (s, b, (q, e, f, run))
-
-      back : Leads a mask (x ∷ v) → Leads a r v
-      back (s, b, (q, e, f, run)) = (q, (moves q).1 ((s, b, e), f), run)
+  leads_more v = (
+    λ (q, h, run). let ((s, b, e), f) = (moves q).0 h in (s, b, (q, e, f, run)),
+    λ (s, b, (q, e, f, run)). (q, (moves q).1 ((s, b, e), f), run),
+  )
 
   pub stands_more : (p : Tree) (w : Word) → Stands a p w mask → Stands a p (w ++ (x ∷ [])) r
   stands_more p w h v = (

@@ -1,4 +1,5 @@
 pub mod Readings
 pub mod Run
+pub mod Positions
 pub mod Tables
 pub mod Step

@@ -1,9 +1,8 @@
 -- The tables of an automaton as relations, and what they recognise.
-use Rattle.std.specs.Prelude.{◌≡◌, ℕ, ◌<◌, ◌≤◌, true, ◌⊎◌, ◌↔◌, List, ◌++◌, slice_index}
+use Rattle.std.specs.Prelude.{◌≡◌, ℕ, ◌<◌, ◌≤◌, true, ◌↔◌, ◌++◌, slice_index}
 use Rattle.model.specs.Patterns.{Tree, ◌then◌, ◌or◌}
-use Rattle.model.specs.declared.Label.{Label}
-use Rattle.model.specs.declared.Label.TheVariants.{Kind, Any}
 use Rattle.bits.specs.Bit.{Has}
+pub use Rattle.automaton.specs.Positions.{FitAt, Known}
 use Rattle.automaton.specs.Readings.{Pair, Word, Reads}
 use Rattle.automaton.specs.Run.{Edges, Frag, Set, Run, Means, Stepped}
 use Rattle.automaton.specs.declared.Automaton.{Automaton}
@@ -12,10 +11,6 @@ use Rattle.automaton.specs.declared.Fragment.{Fragment}
 -- Which state follows which.
 abbrev pub edges : Automaton → Edges
 edges a s q = Has (slice_index a.follow s) q
-
--- The position q fits the kind k.
-abbrev pub FitAt : List ℕ → ℕ → ℕ → Set
-FitAt fits any k q = Has (slice_index fits k) q ⊎ Has any q
 
 -- The position q fits the pair x.
 abbrev pub at : Automaton → ℕ → Pair → Type 0
@@ -60,11 +55,6 @@ pub record Within (a : Automaton) : Type 0 where
 pub record Keeps (a b : Automaton) : Type 0 where
   pub count : b.count ≡ a.count
   pub within : Within a → Within b
-
--- A label that a text can have: one of the eight kinds, or `any`.
-abbrev pub Known : Label → Type 0
-Known (Kind k) = k < 8
-Known Any = Unit {0}
 
 -- The state before the first passage.
 abbrev pub start : ℕ

@@ -6,22 +6,23 @@
 //! one from the parts of a pattern in place, and `step` moves a set of states, a mask, along the readings of the tree.
 #![tactic(auto)]
 
-ghost use Rattle.std.specs.Prelude.{◌≡◌, ℕ, ◌+◌, ◌<◌, ◌≤◌, true, ◌⊎◌, ◌↔◌, [], ◌∷◌, ◌++◌, length, slice_index};
+ghost use Rattle.std.specs.Prelude.{◌≡◌, ℕ, ◌+◌, ◌<◌, ◌≤◌, true, ◌⊎◌, ◌↔◌, [], ◌∷◌, ◌++◌, slice_index};
 ghost use Rattle.model.specs.Patterns.{Tree, name as one_name, empty as nothing, star, plus, maybe, Fits};
 ghost use Rattle.model.specs.Records.{letter};
 ghost use Rattle.bits.specs.Bit.{Has};
+ghost use Rattle.automaton.specs.Positions.{FitAt, Known};
 ghost use Rattle.automaton.specs.Readings.{Word, Reads};
 ghost use Rattle.automaton.specs.Run.{then_frag, or_frag, Same};
-ghost use Rattle.automaton.specs.Step.{stepped};
-ghost use Rattle.automaton.specs.Tables.{Moves, Holds, Leads, Stands, frag, Compiled, Built, Within, Known, FitAt, Recognises, Keeps, InTurn, Either};
 
 use model::Label;
 
 // The set that has only the state before the first passage.
-const START: u32 = 2147483648;
+const START: u32 = 1 << 31;
 
 /// The tables: `follow[s]` has the positions that may come after the state s, `fits[k]` those of the kind k, `any` those
-/// of every kind, `marked[m]` those with the mark m, and `accept` the states in which a pattern may end.
+/// of every kind, `marked[m]` those with the mark m, and `accept` the states in which a pattern may end. The start state
+/// is no position, and only the positions below the count fit anything. The rows lie in arrays, since there is no heap
+/// below the programs.
 #[derive(Clone, Copy)]
 pub struct Automaton {
     pub count: usize,
@@ -30,6 +31,9 @@ pub struct Automaton {
     pub any: u32,
     pub marked: [u32; 9],
     pub accept: u32,
+    pub ghost few: { count ≤ 31 },
+    pub ghost fitting: { (k q : ℕ) → FitAt fits any k q → q < count },
+    pub ghost marking: { (k q : ℕ) → Has (slice_index marked k) q → q < count },
 }
 
 /// A part of a pattern: whether it reads nothing, and the positions with which it can begin and end.
@@ -40,7 +44,7 @@ pub struct Fragment {
     pub last: u32,
 }
 
-// The mask, or no position.
+// The mask, or no position. (`test.then_some(mask).unwrap_or(0)` says the same in more words.)
 fn only_if(test: bool, mask: u32) -> u32
     ensures { (q : ℕ) → Has result q ↔ ((test ≡ true) × Has mask q) }
 {
@@ -51,20 +55,16 @@ fn only_if(test: bool, mask: u32) -> u32
 fn row(rows: &[u32], i: u8) -> u32
     ensures { result ≡ slice_index rows.now i }
 {
-    if (i as usize) < rows.len() {
-        rows[i as usize]
-    } else {
-        0
-    }
+    rows.get(i as usize).copied().unwrap_or(0)
 }
 
 // Every position of `to` follows every state of `from`.
 fn link(follow: &mut [u32; 32], from: u32, to: u32)
     ensures { (s q : ℕ) → Has (slice_index follow.new s) q ↔ (Has (slice_index follow.old s) q ⊎ (Has from s × Has to q)) }
 {
-    for s in 0..32usize {
+    for (s, row) in follow.iter_mut().enumerate() {
         if (from >> s) & 1 == 1 {
-            follow[s] |= to;
+            *row |= to;
         }
     }
 }
@@ -82,6 +82,8 @@ fn admit(fits: &mut [u32; 8], any: &mut u32, label: Label, p: usize)
 }
 
 impl Fragment {
+    ghost use Rattle.automaton.specs.Tables.{frag};
+
     fn then(self, b: Fragment) -> Fragment
         ensures { Same (frag result) (then_frag (frag self) (frag b)) }
     {
@@ -104,9 +106,12 @@ impl Fragment {
 }
 
 impl Automaton {
+    ghost use Rattle.automaton.specs.Step.{stepped};
+    ghost use Rattle.automaton.specs.Tables.{Moves, Holds, Stands, Compiled, Built, Recognises, Keeps, InTurn, Either};
+
     /// An automaton without positions.
     pub fn new() -> Automaton
-        ensures { (result.count ≡ 0) × Within result }
+        ensures { result.count ≡ 0 }
     {
         Automaton {
             count: 0,
@@ -120,9 +125,10 @@ impl Automaton {
 
     /// A new position, for a name. The caller, who counts the names, keeps them to 31.
     pub fn name(&mut self, label: Label, mark: u8) -> Fragment
-        requires { (self.old.count < 31) × ((mark < 9) × ((Known label) × (Within self.old))) }
+        requires room { self.old.count < 31 }
+        requires marks { mark < 9 }
+        requires known { Known label }
         ensures count { self.new.count ≡ self.old.count + 1 }
-        ensures within { Within self.new }
         ensures built { Built self.old self.new result self.old.count (self.old.count + 1) (one_name label (letter mark)) }
     {
         let p = self.count;
@@ -173,8 +179,7 @@ impl Automaton {
         link(&mut self.follow, a.last, a.first);
         Fragment {
             nullable: true,
-            first: a.first,
-            last: a.last,
+            ..a
         }
     }
 
@@ -193,15 +198,12 @@ impl Automaton {
     {
         Fragment {
             nullable: true,
-            first: part.first,
-            last: part.last,
+            ..part
         }
     }
 
-    /// The whole pattern is the fragment: the start state goes before its first positions. The caller has at most 31
-    /// positions, so that the start state is none of them.
+    /// The whole pattern is the fragment: the start state goes before its first positions.
     pub fn finish(&mut self, f: Fragment)
-        requires { self.old.count ≤ 31 }
         ensures { (p : Tree) → Compiled self.old f 0 self.old.count p → Recognises self.new p }
     {
         self.follow[31] = f.first;
@@ -225,9 +227,9 @@ impl Automaton {
         ensures along { (p : Tree) (w : Word) → Stands self.now p w mask → Stands self.now p (w ++ ((kind, mark) ∷ [])) result }
     {
         let mut reach = 0;
-        for s in 0..32usize {
+        for (s, row) in self.follow.iter().enumerate() {
             if (mask >> s) & 1 == 1 {
-                reach |= self.follow[s];
+                reach |= row;
             }
         }
         reach & (row(&self.fits, kind) | self.any) & row(&self.marked, mark)
@@ -246,8 +248,8 @@ impl Automaton {
         ensures { (p : Tree) → Recognises self.now p → (result ≡ true) ↔ Reads p word.now }
     {
         let mut mask = self.start();
-        for x in word {
-            mask = self.step(mask, x.0, x.1);
+        for &(kind, mark) in word {
+            mask = self.step(mask, kind, mark);
         }
         self.accepts(mask)
     }

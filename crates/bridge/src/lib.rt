@@ -16,17 +16,13 @@ ghost use Rattle.bridge.specs.Statement.{AnswersAgree, ReadingsAgree};
 /// length: a track from the start that stands in the space and is final there writes down a candidate; the
 /// lines of each candidate that is no longer than the greatest length are a goal of the space; and no
 /// candidate is longer than the rule's limit.
-pub fn answers_agree() -> u8
+pub fn answers_agree()
     ensures { AnswersAgree }
-{
-    0
-}
+{}
 
 /// Words and outputs agree, for every plan and pattern. The outputs of the pattern are what is written down by those
 /// records of paths whose lines the pattern reads; and where no passage repeats, a record writes down an output
 /// exactly when the pattern reads its lines.
-pub fn readings_agree() -> u8
+pub fn readings_agree()
     ensures { ReadingsAgree }
-{
-    0
-}
+{}

@@ -1,5 +1,6 @@
 -- The least length, by searches under growing caps.
-use Rattle.std.proofs.Common.{◌≡◌, ℕ, ◌+◌, ◌<◌, ◌≤◌, Bool, true, false, [], subst, arith}
+use Rattle.std.proofs.Common.{◌≡◌, ℕ, ◌+◌, ◌<◌, ◌≤◌, true, false, [], Some, None, Option, is_some, sym, subst, arith}
+use borrow.Author.Tests.{clash}
 use native.Mathlib.Decide.{dec_lt}
 use Rattle.model.specs.Plans.{PlanMeaning}
 use Rattle.model.specs.Routes.{len}
@@ -11,16 +12,16 @@ use Rattle.automaton.specs.Tables.{Recognises}
 use Rattle.automaton.specs.declared.Automaton.{Automaton}
 use Rattle.model.specs.declared.Choice.TheVariants.{Shortest}
 use Rattle.route.specs.declared.Route.{Route}
-use Rattle.route.specs.Reading.{track_of, taken_at}
-use Rattle.route.specs.Tracks.{Track}
+use Rattle.route.specs.Reading.{track_of}
 use Rattle.search.specs.Spaces as tr
 use Rattle.search.specs.Listings as li
 use Rattle.search.specs.Listings.{StandingOn, route_at, Delivered}
 use Rattle.route.specs.Limits.{limit}
-use Rattle.route.proofs.Views.{taken_none}
 use Rattle.search.proofs.Follow.{answer_to}
 use Rattle.bridge.specs.Lines.{told, line_codes}
 use Rattle.search.specs.Hunts.{space_of}
+use Rattle.search.specs.Trails.{Comes}
+use Rattle.search.specs.declared.progress.Progress.TheVariants.{AtFront}
 use Rattle.bridge.proofs.Agreed.{short}
 use Rattle.enquiry.specs.Promises.{asked, Least}
 use Rattle.enquiry.proofs.Deliveries as v
@@ -32,37 +33,33 @@ Ask z target = record { start = z; target = target; choice = Shortest }
 abbrev pub Under : PlanMeaning → RuleMeaning → Automaton → ℕ → ℕ → ℕ → Type 0
 Under pl ru a z target most = (t : Tree) → Recognises a t → z < pl.zones → (b : Answer) → Candidate (asked pl ru t) (Ask z target) b → most ≤ len b.route
 
-fresh : (r : Route) (z : ℕ) → r.start ≡ z → r.len ≡ 0 → track_of r ≡ route_at z []
-fresh r z s l = λ i. record { start = s i; steps = taken_none (taken_at r) r.len l i }
-
 module _ (pl : PlanMeaning) (ru : RuleMeaning) (laws : KeepsLaws ru) (a : Automaton) (z target most : ℕ) where
   abbrev T : tr.Space
   T = space_of pl ru a target most
 
-  told_at : (r : Route) (b : Bool) (e : Track) → r.start ≡ z → r.len ≡ 0 → (li.Standing T (track_of r) → Delivered T false (track_of r) b e) → Delivered T false (route_at z []) b e
-  told_at r b e s l h = subst (λ (x : Track). li.Standing T x → Delivered T false x b e) (fresh r z s l) h tt
+  -- what the search from the start came to
+  abbrev Told : Option Route → Type 0
+  Told o = li.Standing T (route_at z []) → Comes T (AtFront z) o
 
-  pub found : (r : Route) (e : Track) → r.start ≡ z → r.len ≡ 0 → (li.Standing T (track_of r) → Delivered T false (track_of r) true e) → Under pl ru a z target most →
-      (t : Tree) → Recognises a t → z < pl.zones → Least (asked pl ru t) z target most
+  pub found : (o : Option Route) → is_some o ≡ true → Told o → Under pl ru a z target most → (t : Tree) → Recognises a t → z < pl.zones → Least (asked pl ru t) z target most
   unfolding Delivered
-  found r e s l h u t rec low =
-      let d = told_at r true e s l h in
+  found None s h u t rec low = absurd (clash s)
+  found (Some r) s h u t rec low =
+      let e = track_of r in
+      let d = h tt in
       let st : StandingOn T z e.steps = subst (λ (y : ℕ). StandingOn T y e.steps) d.starts d.stands in
       let f = answer_to T z e.steps [] st d.answer in (
         u t rec low,
         λ b k. (told (route_at z e.steps), v.candidate (asked pl ru t) laws a rec z target Shortest most low e.steps st f, v.kept_len (asked pl ru t) laws a rec z target Shortest most low e.steps st),
       )
 
-  pub none : (r : Route) (e : Track) → r.start ≡ z → r.len ≡ 0 → (li.Standing T (track_of r) → Delivered T false (track_of r) false e) → Under pl ru a z target most → Under pl ru a z target (most + 1)
+  pub none : (o : Option Route) → is_some o ≡ false → Told o → Under pl ru a z target most → Under pl ru a z target (most + 1)
   unfolding Delivered
-  none r e s l h u t rec low b k = elim (dec_lt most (len b.route)) [
+  none (Some r) s h u t rec low b k = absurd (clash (sym s))
+  none None s h u t rec low b k = elim (dec_lt most (len b.route)) [
     | yes x ↦ omega arith
-    | no x ↦ absurd (told_at r false e s l h (line_codes (record_of b).lines) (v.search_answer (asked pl ru t) laws a rec z target Shortest most low b k (omega arith)) tt)
+    | no x ↦ absurd (h tt (line_codes (record_of b).lines) (v.search_answer (asked pl ru t) laws a rec z target Shortest most low b k (omega arith)) tt)
   ]
 
   pub all_tried : most ≡ limit ru → Under pl ru a z target most → (t : Tree) → Recognises a t → z < pl.zones → Least (asked pl ru t) z target most
   all_tried e u t rec low = (u t rec low, λ b k. (b, k, omega (arith, short (asked pl ru t) laws (Ask z target) b k)))
-
-pub told_same : {pl pl' : PlanMeaning} {ru ru' : RuleMeaning} {a a' : Automaton} (target most : ℕ) (b : Bool) (x : Track) (r : Bool) (e : Track) → pl' ≡ pl → ru' ≡ ru → a' ≡ a →
-    (li.Standing (space_of pl' ru' a' target most) x → Delivered (space_of pl' ru' a' target most) b x r e) → li.Standing (space_of pl ru a target most) x → Delivered (space_of pl ru a target most) b x r e
-told_same target most b x r e p q s h = subst (λ (T : tr.Space). li.Standing T x → Delivered T b x r e) (λ i. space_of (p i) (q i) (s i) target most) h

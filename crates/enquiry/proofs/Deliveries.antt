@@ -24,7 +24,7 @@ use Rattle.bridge.proofs.Agreed.{answers_agree, lined}
 use Rattle.bridge.proofs.Walk.{admitted, word_letter}
 use Rattle.bridge.specs.Ahead.{From}
 use Rattle.enquiry.specs.Records.{words_on, record_on}
-use Rattle.enquiry.specs.Promises.{standing_of, Capped}
+use Rattle.enquiry.specs.Promises.{standing_by, Capped}
 
 -- the order of records is the order of codes
 to_codes : (xs ys : List Line) → Earlier xs ys → t.Earlier (line_codes xs) (line_codes ys)
@@ -122,11 +122,11 @@ module _ (n : EnquiryMeaning) (kept : Lawful n) (a : Automaton) (rec : Recognise
     codes_before : (xs : List Taken) → StandingOn T z xs → T.final (route_at z xs) ≡ true → (b : Answer) → t.Earlier (codes_of (route_at z xs)) (line_codes (record_of b).lines) → Before (told (route_at z xs)) b
     codes_before xs s f b h = from_codes (record_of (told (route_at z xs))).lines (record_of b).lines (subst (λ (u : List t.Code). t.Earlier u (line_codes (record_of b).lines)) (sym (lines_told xs s f)) h)
 
-    come : (begun : Bool) (xs : List Taken) → StandingOn T z xs → (begun ≡ true → T.final (route_at z xs) ≡ true) → (b : Answer) → After (standing_of begun (route_at z xs)) b → ToCome begun (codes_of (route_at z xs)) (line_codes (record_of b).lines)
+    come : (begun : Bool) (xs : List Taken) → StandingOn T z xs → (begun ≡ true → T.final (route_at z xs) ≡ true) → (b : Answer) → After (standing_by begun (route_at z xs)) b → ToCome begun (codes_of (route_at z xs)) (line_codes (record_of b).lines)
     come true xs s f b h = before_codes xs s (f refl) b h
     come false xs s f b h = tt
 
-    after : (begun : Bool) (xs : List Taken) → StandingOn T z xs → (begun ≡ true → T.final (route_at z xs) ≡ true) → (b : Answer) → ToCome begun (codes_of (route_at z xs)) (line_codes (record_of b).lines) → After (standing_of begun (route_at z xs)) b
+    after : (begun : Bool) (xs : List Taken) → StandingOn T z xs → (begun ≡ true → T.final (route_at z xs) ≡ true) → (b : Answer) → ToCome begun (codes_of (route_at z xs)) (line_codes (record_of b).lines) → After (standing_by begun (route_at z xs)) b
     after true xs s f b h = codes_before xs s (f refl) b h
     after false xs s f b h = tt
 
@@ -134,13 +134,13 @@ module _ (n : EnquiryMeaning) (kept : Lawful n) (a : Automaton) (rec : Recognise
     final_of e p s h = answer_to T z e.steps [] (subst (λ (y : ℕ). StandingOn T y e.steps) p s) h
 
     pub none_left : (begun : Bool) (xs : List Taken) → StandingOn T z xs → (begun ≡ true → T.final (route_at z xs) ≡ true) →
-        ((w : List t.Code) → t.Goal T (route_at z []) w → ToCome begun (codes_of (route_at z xs)) w → ⊥) → (b : Answer) → Left n Q (standing_of begun (route_at z xs)) b → ⊥
+        ((w : List t.Code) → t.Goal T (route_at z []) w → ToCome begun (codes_of (route_at z xs)) w → ⊥) → (b : Answer) → Left n Q (standing_by begun (route_at z xs)) b → ⊥
     none_left begun xs s f h b l = h (line_codes (record_of b).lines) (search_all b l.0) (come begun xs s f b l.1)
 
     pub first_one : (begun : Bool) (xs : List Taken) → StandingOn T z xs → (begun ≡ true → T.final (route_at z xs) ≡ true) →
         (ys : List Taken) → StandingOn T z ys → T.final (route_at z ys) ≡ true → ToCome begun (codes_of (route_at z xs)) (codes_of (route_at z ys)) →
         ((w : List t.Code) → t.Goal T (route_at z []) w → ToCome begun (codes_of (route_at z xs)) w → t.Earlier w (codes_of (route_at z ys)) → ⊥) →
-        First (Left n Q (standing_of begun (route_at z xs))) (told (route_at z ys))
+        First (Left n Q (standing_by begun (route_at z xs))) (told (route_at z ys))
     first_one begun xs s f ys st g later least =
         let A = told (route_at z ys) in
         let c = lines_told ys st g in

@@ -5,6 +5,7 @@ use Rattle.model.specs.Rules.{RuleMeaning}
 use Rattle.model.specs.Records.{Line, words, line_words, mark_word}
 use Rattle.automaton.specs.declared.Automaton.{Automaton}
 use Rattle.search.specs.declared.cursor.Cursor.{Cursor}
+use Rattle.search.specs.Trails.{trail}
 use Rattle.route.specs.declared.Route.{Route}
 use Rattle.route.specs.Reading.{track_of, taken_at, taken_of}
 use Rattle.route.specs.Tracks.{Track}
@@ -139,7 +140,7 @@ module _ (pl : PlanMeaning) (ru : RuleMeaning) (a : Automaton) (target most z : 
       go [] g c = n (from_final pl ru a target most s g)
       go (x ∷ ks) g c = omega arith
 
-pub arrives : (pl : PlanMeaning) (ru : RuleMeaning) (a : Automaton) (d : Cursor) (ws : List ℕ) (r : Route) (i : ℕ) → i ≡ get_or ws 0 0 → OnWay pl ru a d.target d.most d.route.start ws (track_of r) i → (space_of pl ru a d.target d.most).final (track_of r) ≡ true → Walked pl ru a d ws r
+pub arrives : (pl : PlanMeaning) (ru : RuleMeaning) (a : Automaton) (d : Cursor) (ws : List ℕ) (r : Route) (i : ℕ) → i ≡ get_or ws 0 0 → OnWay pl ru a d.target d.most (trail d.progress).start ws (track_of r) i → (space_of pl ru a d.target d.most).final (track_of r) ≡ true → Walked pl ru a d ws r
 arrives pl ru a d ws r i e o f = record {
   starts = o.starts;
   stands = o.stands;

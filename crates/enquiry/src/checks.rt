@@ -1,48 +1,46 @@
 //! The calls that read a record: check and resume.
 ghost use Rattle.std.specs.Prelude.{◌≡◌};
 ghost use Rattle.model.specs.Calls.{Check, Resume};
-ghost use Rattle.enquiry.specs.Promises.{Promise, IfRefused};
+ghost use Rattle.enquiry.specs.Promises.{Promised, IfRefused};
 
 use crate::calls::Enquiry;
 use crate::formed::malformed;
+use crate::walk::walk;
 use fault::{EnquiryFault, Fault};
 use plan::Plan;
 use route::Rule;
+use search::Progress;
 
 impl<P: Plan, R: Rule> Enquiry<P, R> {
     /// Whether the record at the front of the words is one of an answer.
     pub fn check(&self, words: &[u16]) -> Result<bool, Fault>
-        ensures { Promise (P.Plan.meaning self.now.search.plan) (R.Rule.meaning self.now.search.rule) self.now.search.automaton self.now.search.cursor self.now.search.cursor (λ n s u. Check n s words.now result u) }
+        ensures { Promised P.Plan.meaning R.Rule.meaning self.now self.now (λ n s u. Check n s words.now result u) }
     {
-        if !self.search.cursor.posed {
+        let Some(cursor) = &self.cursor else {
             return Err(Fault::Enquiry(EnquiryFault::Unposed(0)));
-        }
+        };
         if let Some(place) = malformed(words) {
             return Err(Fault::Enquiry(EnquiryFault::Malformed(place)));
         }
-        match self.walk(words) {
-            Some(_) => Ok(true),
-            None => Ok(false),
-        }
+        Ok(walk(&self.search, cursor, words).is_some())
     }
 
     /// Stands behind the answer whose record is at the front of the words.
     pub fn resume(&mut self, words: &[u16]) -> Result<(), Fault>
-        ensures relation { Promise (P.Plan.meaning self.old.search.plan) (R.Rule.meaning self.old.search.rule) self.old.search.automaton self.old.search.cursor self.new.search.cursor (λ n s u. Resume n s words.now result u) }
-        ensures same { (self.new.search.plan ≡ self.old.search.plan) × ((self.new.search.rule ≡ self.old.search.rule) × (self.new.search.automaton ≡ self.old.search.automaton)) }
+        ensures relation { Promised P.Plan.meaning R.Rule.meaning self.old self.new (λ n s u. Resume n s words.now result u) }
+        ensures same { self.new.search ≡ self.old.search }
         ensures refused { IfRefused result (self.new ≡ self.old) }
     {
-        if !self.search.cursor.posed {
+        let Some(cursor) = &self.cursor else {
             return Err(Fault::Enquiry(EnquiryFault::Unposed(0)));
-        }
+        };
         if let Some(place) = malformed(words) {
             return Err(Fault::Enquiry(EnquiryFault::Malformed(place)));
         }
-        let Some(route) = self.walk(words) else {
+        let Some(route) = walk(&self.search, cursor, words) else {
             return Err(Fault::Enquiry(EnquiryFault::NotAnswer(0)));
         };
-        self.search.cursor.begun = true;
-        self.search.cursor.route = route;
+        self.cursor = Some(cursor.with_progress(Progress::Behind(route)));
         Ok(())
     }
 }

@@ -16,6 +16,7 @@ pub(crate) fn malformed(words: &[u16]) -> Option<usize>
     if words.len() < 2 + 3 * n {
         return Some(words.len());
     }
+    // by place, since the place is what a fault tells
     for i in 0..n {
         if words[4 + 3 * i] > 8 {
             return Some(4 + 3 * i);

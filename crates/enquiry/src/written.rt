@@ -13,12 +13,11 @@ pub(crate) fn write_record(route: &Route, words: &mut [u16]) -> usize
 {
     words[0] = route.len as u16;
     words[1] = route.start as u16;
-    let mut at = 2;
     for i in 0..route.len {
+        let at = 2 + 3 * i;
         words[at] = route.passages[i] as u16;
         words[at + 1] = route.zones[i] as u16;
         words[at + 2] = route.marks[i] as u16;
-        at += 3;
     }
-    at
+    2 + 3 * route.len
 }

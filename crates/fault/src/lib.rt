@@ -12,7 +12,7 @@ ghost use Rattle.fault.specs.Faults.{number_of, layer_of, place_of, plan_number,
 mod words;
 
 /// What is wrong with a plan file, a grid or a closure sheet.
-#[derive(Clone, Copy)]
+#[derive(Clone, Copy, PartialEq, Eq, Debug)]
 pub enum PlanFault {
     /// fewer than three bytes
     Short(usize),
@@ -37,7 +37,7 @@ pub enum PlanFault {
 }
 
 /// What is wrong with a pattern text.
-#[derive(Clone, Copy)]
+#[derive(Clone, Copy, PartialEq, Eq, Debug)]
 pub enum PatternFault {
     /// more than 512 bytes
     Long(usize),
@@ -54,7 +54,7 @@ pub enum PatternFault {
 }
 
 /// What is wrong with a call on an enquiry.
-#[derive(Clone, Copy)]
+#[derive(Clone, Copy, PartialEq, Eq, Debug)]
 pub enum EnquiryFault {
     /// a start that is no zone
     Start(usize),
@@ -71,13 +71,14 @@ pub enum EnquiryFault {
 }
 
 /// One fault, by its layer.
-#[derive(Clone, Copy)]
+#[derive(Clone, Copy, PartialEq, Eq, Debug)]
 pub enum Fault {
     Plan(PlanFault),
     Pattern(PatternFault),
     Enquiry(EnquiryFault),
 }
 
+// The layers' cases differ, so each has its own list of numbers and places.
 impl PlanFault {
     fn number(self) -> u8
         ensures { result ≡ plan_number self }

@@ -9,10 +9,12 @@
 
 ghost use Rattle.grammar.specs.Theorems.{GoesOn, GivesTree, OneTree};
 
+mod shown;
+
 use model::Label;
 
 /// How often an atom may be repeated.
-#[derive(Clone, Copy)]
+#[derive(Clone, Copy, PartialEq, Eq, Debug)]
 pub enum Times {
     /// `*`
     ZeroOrMore,
@@ -22,8 +24,8 @@ pub enum Times {
     ZeroOrOne,
 }
 
-/// A token whose name is known. A letter goes by its mark, 1 to 8.
-#[derive(Clone, Copy)]
+/// A token whose name is known. A letter goes by its mark, 1 to 8, the word that records have for it.
+#[derive(Clone, Copy, PartialEq, Eq, Debug)]
 pub enum Symbol {
     Name(Label),
     Empty,
@@ -36,10 +38,8 @@ pub enum Symbol {
 }
 
 /// Carries the theorems about the grammar.
-pub fn grammar_stands() -> bool
+pub fn grammar_stands()
     ensures goes { GoesOn }
     ensures gives { GivesTree }
     ensures one { OneTree }
-{
-    true
-}
+{}

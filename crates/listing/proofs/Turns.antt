@@ -1,5 +1,5 @@
 -- One call more.
-use Rattle.std.proofs.Common.{◌≡◌, ℕ, ◌≤◌, false, List, [], ◌∷◌, ◌++◌, map, length, take, sym, refl, ◌∙◌, subst, ap₂, arith}
+use Rattle.std.proofs.Common.{◌≡◌, ℕ, ◌≤◌, List, [], ◌∷◌, ◌++◌, map, length, take, None, Option, sym, refl, ◌∙◌, subst, ap₂, arith}
 use mathlib.Core.List.{map-append}
 use lib.Seq.{take-append-le}
 use Rattle.std.proofs.lemmas.List.{take_all}
@@ -16,14 +16,12 @@ use Rattle.model.proofs.RunLaws.{law_of_next_lem, law_of_listings_lem}
 use Rattle.automaton.specs.Tables.{Recognises}
 use Rattle.automaton.specs.declared.Automaton.{Automaton}
 use Rattle.search.specs.declared.cursor.Cursor.{Cursor}
-use borrow.Author.Tests.{clash}
-use Rattle.enquiry.proofs.Cursors.{unposed_at}
 use Rattle.enquiry.specs.Promises.{asked, state_of, Kept, Promise}
 use Rattle.listing.specs.declared.call.Call.{Call}
 use Rattle.listing.specs.declared.call.Reply.{Reply}
 use Rattle.listing.specs.Events.{Told, replied, call_of, reply_of, Performs, Performed, Replayed}
 
-pub performs : (pl : PlanMeaning) (ru : RuleMeaning) (a : Automaton) (d e : Cursor) (c : Call) (r : Told) (ev : Event) → handed ev ≡ call_of c → replied ev ≡ r → Promise pl ru a d e (λ n s u. Does n s ev u) →
+pub performs : (pl : PlanMeaning) (ru : RuleMeaning) (a : Automaton) (d e : Option Cursor) (c : Call) (r : Told) (ev : Event) → handed ev ≡ call_of c → replied ev ≡ r → Promise pl ru a d e (λ n s u. Does n s ev u) →
     (t : Tree) → Recognises a t → Kept (asked pl ru t) a d → Performs (asked pl ru t) a d (call_of c) r e
 performs pl ru a d e c r ev h q p t rec k = let x = p t rec k in record { event = ev; called = h; answered = q; does = x.0; kept = x.1 }
 
@@ -38,17 +36,17 @@ goes_more n s t u es e g x = go g
     go (then_goes y g) = then_goes y (go g)
 
 -- the run so far
-pub record Running (n : EnquiryMeaning) (a : Automaton) (cs : List k.Call) (rs : List Told) (d : Cursor) : Type 0 where
+pub record Running (n : EnquiryMeaning) (a : Automaton) (cs : List k.Call) (rs : List Told) (d : Option Cursor) : Type 0 where
   pub events : List Event
   pub called : map handed events ≡ cs
   pub answered : map replied events ≡ rs
   pub goes : Goes n unposed events (state_of d)
   pub kept : Kept n a d
 
-pub starts : (n : EnquiryMeaning) (a : Automaton) (d : Cursor) → state_of d ≡ unposed → Kept n a d → Running n a [] [] d
+pub starts : (n : EnquiryMeaning) (a : Automaton) (d : Option Cursor) → state_of d ≡ unposed → Kept n a d → Running n a [] [] d
 starts n a d e k = record { events = []; called = refl; answered = refl; goes = subst (λ (s : State). Goes n unposed [] s) (sym e) done; kept = k }
 
-pub one_more : (n : EnquiryMeaning) (a : Automaton) (cs : List k.Call) (rs : List Told) (d e : Cursor) (c : k.Call) (r : Told) → Running n a cs rs d → (Kept n a d → Performs n a d c r e) → Running n a (cs ++ (c ∷ [])) (rs ++ (r ∷ [])) e
+pub one_more : (n : EnquiryMeaning) (a : Automaton) (cs : List k.Call) (rs : List Told) (d e : Option Cursor) (c : k.Call) (r : Told) → Running n a cs rs d → (Kept n a d → Performs n a d c r e) → Running n a (cs ++ (c ∷ [])) (rs ++ (r ∷ [])) e
 one_more n a cs rs d e c r u p =
     let x = p u.kept in
     record {
@@ -59,7 +57,7 @@ one_more n a cs rs d e c r u p =
       kept = x.kept;
     }
 
-pub replayed : (n : EnquiryMeaning) → Lawful n → (a : Automaton) (cs : List k.Call) (rs : List Told) (d : Cursor) → Running n a cs rs d → Replayed n cs rs
+pub replayed : (n : EnquiryMeaning) → Lawful n → (a : Automaton) (cs : List k.Call) (rs : List Told) (d : Option Cursor) → Running n a cs rs d → Replayed n cs rs
 replayed n kept a cs rs d u =
     let h : Happens n u.events = record { left_as = state_of d; goes = u.goes } in
     record {
@@ -71,11 +69,11 @@ replayed n kept a cs rs d u =
       every_listing = λ o law fs q v ls ms g f f'. law_of_listings_lem n o kept law u.events fs q v ls ms h g f f';
     }
 
-pub starts_new : (n : EnquiryMeaning) (a : Automaton) (d : Cursor) (cs : List k.Call) (rs : List Told) → cs ≡ [] → rs ≡ [] → d.posed ≡ false → Running n a cs rs d
-starts_new n a d cs rs p q e = subst (λ (x : List k.Call). Running n a x rs d) (sym p) (subst (λ (x : List Told). Running n a [] x d) (sym q) (starts n a d (unposed_at d e) (λ f. absurd (clash (sym e ∙ f)))))
+pub starts_new : (n : EnquiryMeaning) (a : Automaton) (d : Option Cursor) (cs : List k.Call) (rs : List Told) → cs ≡ [] → rs ≡ [] → d ≡ None → Running n a cs rs d
+starts_new n a d cs rs p q e = subst (λ (x : List k.Call). Running n a x rs d) (sym p) (subst (λ (x : List Told). Running n a [] x d) (sym q) (subst (λ (x : Option Cursor). Running n a [] [] x) (sym e) (starts n a None refl tt)))
 
 -- in a loop: the plan, the rule and the automaton are those of the start
-pub more_calls : {pl pl' : PlanMeaning} {ru ru' : RuleMeaning} {a a' : Automaton} (d e : Cursor) (cs : List Call) (rs rs' : List Reply) (c : Call) (r : Reply) → pl' ≡ pl → ru' ≡ ru → a' ≡ a →
+pub more_calls : {pl pl' : PlanMeaning} {ru ru' : RuleMeaning} {a a' : Automaton} (d e : Option Cursor) (cs : List Call) (rs rs' : List Reply) (c : Call) (r : Reply) → pl' ≡ pl → ru' ≡ ru → a' ≡ a →
     Performed pl' ru' a' d c r e → rs' ≡ rs ++ (r ∷ []) →
     ((t : Tree) → Recognises a t → Running (asked pl ru t) a (map call_of cs) (map reply_of rs) d) →
     (t : Tree) → Recognises a t → Running (asked pl ru t) a (map call_of (cs ++ (c ∷ []))) (map reply_of rs') e
@@ -86,7 +84,7 @@ more_calls {pl} {pl'} {ru} {ru'} {a} {a'} d e cs rs rs' c r p q s h i u t rec =
     (subst (λ (x : List Told). Running (asked pl ru t) a (map call_of (cs ++ (c ∷ []))) x e) (sym (map-append reply_of rs (r ∷ [])))
     (subst (λ (x : List k.Call). Running (asked pl ru t) a x (map reply_of rs ++ (reply_of r ∷ [])) e) (sym (map-append call_of cs (c ∷ []))) g))
 
-pub all_replayed : {pl pl' : PlanMeaning} {ru ru' : RuleMeaning} {a a' : Automaton} (laws : KeepsLaws ru') (d : Cursor) (cs cs' : List Call) (rs : List Reply) → pl' ≡ pl → ru' ≡ ru → a' ≡ a → cs ≡ cs' →
+pub all_replayed : {pl pl' : PlanMeaning} {ru ru' : RuleMeaning} {a a' : Automaton} (laws : KeepsLaws ru') (d : Option Cursor) (cs cs' : List Call) (rs : List Reply) → pl' ≡ pl → ru' ≡ ru → a' ≡ a → cs ≡ cs' →
     ((t : Tree) → Recognises a' t → Running (asked pl' ru' t) a' (map call_of cs) (map reply_of rs) d) →
     (t : Tree) → Recognises a t → Replayed (asked pl ru t) (map call_of cs') (map reply_of rs)
 all_replayed {pl} {pl'} {ru} {ru'} {a} {a'} laws d cs cs' rs p q s e u =

@@ -14,6 +14,7 @@ use Rattle.automaton.specs.declared.Automaton.{Automaton}
 use Rattle.pattern.specs.Texts.{Gives, FaultOf}
 use Rattle.search.specs.declared.cursor.Cursor.{Cursor}
 use Rattle.enquiry.specs.Promises.{asked, state_of, Kept}
+use Rattle.enquiry.specs.declared.calls.Enquiry.{Enquiry}
 use Rattle.listing.specs.declared.call.Call.{Call}
 use Rattle.listing.specs.declared.call.Call.TheVariants.{Pose, Next, Again, Check, Resume}
 use Rattle.listing.specs.declared.call.Trouble.{Trouble}
@@ -54,7 +55,7 @@ reply_of (Checked o) = check_told o
 reply_of (Resumed o) = resume_told o
 
 -- the call and its reply are an event, from the cursor to the cursor after it
-pub record Performs (n : EnquiryMeaning) (a : Automaton) (d : Cursor) (c : k.Call) (r : Told) (e : Cursor) : Type 0 where
+pub record Performs (n : EnquiryMeaning) (a : Automaton) (d : Option Cursor) (c : k.Call) (r : Told) (e : Option Cursor) : Type 0 where
   pub event : Event
   pub called : handed event ≡ c
   pub answered : replied event ≡ r
@@ -62,8 +63,12 @@ pub record Performs (n : EnquiryMeaning) (a : Automaton) (d : Cursor) (c : k.Cal
   pub kept : Kept n a e
 
 -- The same for every tree that the automaton recognises.
-abbrev pub Performed : PlanMeaning → RuleMeaning → Automaton → Cursor → Call → Reply → Cursor → Type 0
+abbrev pub Performed : PlanMeaning → RuleMeaning → Automaton → Option Cursor → Call → Reply → Option Cursor → Type 0
 Performed pl ru a d c r e = (t : Tree) → Recognises a t → Kept (asked pl ru t) a d → Performs (asked pl ru t) a d (call_of c) (reply_of r) e
+
+-- The same of an enquiry before and after the call, by what plans and rules mean.
+abbrev pub PerformedBy : {P R : Type 0} → (P → PlanMeaning) → (R → RuleMeaning) → Enquiry P R → Call → Reply → Enquiry P R → Type 0
+PerformedBy plan_of rule_of e c r e' = Performed (plan_of e.search.plan) (rule_of e.search.rule) e.search.automaton e.cursor c r e'.cursor
 
 -- The calls with their replies, in turn, are a run: they happen to a new enquiry.
 pub record Replayed (n : EnquiryMeaning) (cs : List k.Call) (rs : List Told) : Type 0 where

@@ -1,5 +1,5 @@
 -- Questions put in full, and what comparing two of them answers.
-use Rattle.std.specs.Prelude.{◌≡◌, ℕ, ◌<◌, ◌≤◌, Bool, true, ◌↔◌, List}
+use Rattle.std.specs.Prelude.{◌≡◌, ℕ, ◌<◌, ◌≤◌, Bool, true, ◌↔◌, List, Option}
 use Rattle.fault.specs.declared.Fault.{Fault}
 use Rattle.fault.specs.declared.Fault.TheVariants.{Enquiry}
 use Rattle.fault.specs.declared.EnquiryFault.TheVariants.{Start, Target}
@@ -53,7 +53,7 @@ pub data NotCompared (f g : FullQuestion) (x : Fault) : Type 0 where
   second_refused : (t : Tree) → Sound f t → RefusedFor g x → NotCompared f g x
 
 -- An enquiry that holds the question and stands before its first answer.
-pub record Opened (f : FullQuestion) (a : Automaton) (d : Cursor) : Type 0 where
+pub record Opened (f : FullQuestion) (a : Automaton) (d : Option Cursor) : Type 0 where
   pub tree : Tree
   pub sound : Sound f tree
   pub recognises : Recognises a tree

@@ -1,6 +1,6 @@
 //! One call.
 ghost use Rattle.std.specs.Prelude.{◌≡◌};
-ghost use Rattle.listing.specs.Events.{Performed};
+ghost use Rattle.listing.specs.Events.{PerformedBy};
 
 use crate::call::{Call, Reply};
 use enquiry::Enquiry;
@@ -9,8 +9,8 @@ use route::Rule;
 
 /// Makes one call.
 pub(crate) fn perform<P: Plan, R: Rule>(enquiry: &mut Enquiry<P, R>, call: Call) -> Reply
-    ensures told { Performed (P.Plan.meaning enquiry.old.search.plan) (R.Rule.meaning enquiry.old.search.rule) enquiry.old.search.automaton enquiry.old.search.cursor call result enquiry.new.search.cursor }
-    ensures same { (enquiry.new.search.plan ≡ enquiry.old.search.plan) × ((enquiry.new.search.rule ≡ enquiry.old.search.rule) × (enquiry.new.search.automaton ≡ enquiry.old.search.automaton)) }
+    ensures told { PerformedBy P.Plan.meaning R.Rule.meaning enquiry.old call result enquiry.new }
+    ensures same { enquiry.new.search ≡ enquiry.old.search }
 {
     match call {
         Call::Pose(start, target, choice) => Reply::Pose(enquiry.pose(start, target, choice)),

@@ -8,6 +8,7 @@
 
 mod theorems;
 
+use std::fmt;
 pub use theorems::{
     calls_have_one_run, examples_come_out, greatest_lengths_are_reached, law_of_listings,
     law_of_next, listings_end, patterns_keep_laws, plan_edges_hold, records_keep_laws,
@@ -15,10 +16,28 @@ pub use theorems::{
 };
 
 /// What a name of a pattern fits: the passages of one kind, or all.
+// A kind is a number, as plans answer it, and the laws of patterns hold for every number: an enum would ask more.
 #[derive(Clone, Copy, PartialEq, Eq, Debug)]
 pub enum Label {
     Kind(u8),
     Any,
+}
+
+/// The name as a pattern has it; a kind that no plan has goes by the last name.
+impl fmt::Display for Label {
+    fn fmt<W: fmt::Write>(&self, f: &mut fmt::Formatter<W>) -> fmt::Result {
+        f.pad(match self {
+            Label::Kind(0) => "free",
+            Label::Kind(1) => "badge",
+            Label::Kind(2) => "pin",
+            Label::Kind(3) => "turn",
+            Label::Kind(4) => "lift",
+            Label::Kind(5) => "fire",
+            Label::Kind(6) => "dock",
+            Label::Kind(_) => "stair",
+            Label::Any => "any",
+        })
+    }
 }
 
 /// Which answers a question wants.

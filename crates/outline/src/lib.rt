@@ -6,68 +6,29 @@
 //! text is a pattern is for crate `pattern` to say. Proved of it is only that it is safe and ends.
 #![tactic(auto)]
 
-use grammar::{Symbol, Times};
-use model::Label;
+use grammar::Symbol;
 use reader::{Reader, next_symbol};
 use std::alloc::{AllocError, Global};
+use std::fmt::Write;
 
-fn label_text(label: Label) -> &'static str {
-    match label {
-        Label::Kind(0) => "free",
-        Label::Kind(1) => "badge",
-        Label::Kind(2) => "pin",
-        Label::Kind(3) => "turn",
-        Label::Kind(4) => "lift",
-        Label::Kind(5) => "fire",
-        Label::Kind(6) => "dock",
-        Label::Kind(_) => "stair",
-        Label::Any => "any",
-    }
-}
-
-fn letter_text(mark: u8) -> &'static str {
-    match mark {
-        1 => "A",
-        2 => "B",
-        3 => "C",
-        4 => "D",
-        5 => "E",
-        6 => "F",
-        7 => "G",
-        _ => "H",
-    }
-}
-
-// What stands for a symbol that is not a name.
-fn symbol_text(symbol: Symbol) -> &'static str {
+// What stands for a symbol; an open parenthesis opens a pattern and its first sequence.
+fn write_symbol(shown: &mut String, symbol: Symbol) -> Result<(), AllocError> {
     match symbol {
-        Symbol::Name(label) => label_text(label),
-        Symbol::Empty => "empty",
-        Symbol::Letter(mark) => letter_text(mark),
-        Symbol::Caret => "^",
-        Symbol::Bar => ") | (",
-        Symbol::Repeat(Times::ZeroOrMore) => "*",
-        Symbol::Repeat(Times::OneOrMore) => "+",
-        Symbol::Repeat(Times::ZeroOrOne) => "?",
-        Symbol::Open => "((",
-        Symbol::Close => "))",
+        Symbol::Open => shown.push_str("(("),
+        Symbol::Bar => shown.push_str(") | ("),
+        Symbol::Close => shown.push_str("))"),
+        _ => write!(shown, "{symbol}"),
     }
 }
 
 // Whether an atom begins with the symbol.
 fn begins_atom(symbol: Symbol) -> bool {
-    match symbol {
-        Symbol::Name(_) | Symbol::Empty | Symbol::Open => true,
-        _ => false,
-    }
+    matches!(symbol, Symbol::Name(_) | Symbol::Empty | Symbol::Open)
 }
 
 // Whether an item may stand right behind the symbol, with a space between them.
 fn ends_item(symbol: Symbol) -> bool {
-    match symbol {
-        Symbol::Bar | Symbol::Open => false,
-        _ => true,
-    }
+    !matches!(symbol, Symbol::Bar | Symbol::Open)
 }
 
 /// The text as it is read.
@@ -82,10 +43,9 @@ pub fn outline(heap: Global, text: &[u8]) -> Result<String, AllocError> {
         }
         if let Symbol::Name(_) = symbol {
             names = names.wrapping_add(1);
-            let number = format!(in heap; "{names}:")?;
-            shown.push_str(&number)?;
+            write!(shown, "{names}:")?;
         }
-        shown.push_str(symbol_text(symbol))?;
+        write_symbol(&mut shown, symbol)?;
         spaced = ends_item(symbol);
     }
     shown.push_str("))")?;

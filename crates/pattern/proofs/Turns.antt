@@ -1,108 +1,63 @@
 -- What the reading of a text keeps from token to token.
-use Rattle.std.proofs.Common.{◌≡◌, ℕ, ◌<◌, ◌≤◌, Bool, true, false, cond, eqb, ◌⊎◌, List, [], ◌∷◌, ◌++◌, length, get_or, Some, None, Ok, Err, Option, Result, sym, refl, ap, ◌∙◌, subst, inl, inr, add-one, arith, MatchResult}
-use Rattle.std.proofs.lemmas.Bool.Decides.{nat_tests}
+use Rattle.std.proofs.Common.{◌≡◌, ℕ, ◌+◌, ◌-◌, ◌<◌, ◌≤◌, ◌⊎◌, List, [], ◌∷◌, ◌++◌, length, Some, None, Ok, Err, Option, Result, sym, refl, ap, ◌∙◌, subst, inl, inr, add-one, arith, MatchResult}
 use Rattle.fault.specs.declared.PatternFault.{PatternFault}
 use Rattle.fault.specs.declared.PatternFault.TheVariants.{Long, Byte, Unknown, Misplaced, Names, Nested}
-use Rattle.model.specs.Patterns.{Tree}
+use Rattle.model.specs.Patterns.{Tree, empty}
 use Rattle.automaton.specs.Tables.{Recognises}
 use Rattle.automaton.specs.declared.Automaton.{Automaton}
 use Rattle.grammar.specs.Grammar as grammar
 use Rattle.grammar.specs.Grammar.{Begins}
-use Rattle.grammar.specs.Machine.{Mode, due, named, marking, atomed, itemed, Level, level, State, at, step_at, run, start, finish}
+use Rattle.grammar.specs.Machine as machine
+use Rattle.grammar.specs.Machine.{Mode, due, named, atomed, Level, level, State, at, step_at, run, start, finish}
 use Rattle.grammar.specs.declared.Symbol.{Symbol}
 use Rattle.grammar.specs.declared.Symbol.TheVariants.{Name, Empty, Letter, Caret, Bar, Repeat, Open, Close}
 use Rattle.grammar.proofs.Sound.{sound, complete, alive, dead, run_++}
-use Rattle.reader.specs.Classes.{class_of}
-use Rattle.reader.specs.Words.{meaning}
 use Rattle.reader.specs.Symbols.{TokenFault}
-use Rattle.reader.specs.Tokens.{EndAt, SymbolAt, named as by_name, lone, letter, sign, sign_of}
-use Rattle.reader.specs.declared.class.Class.TheVariants.{Capital}
-use Rattle.reader.specs.declared.word.Word.{Word}
-use Rattle.reader.specs.declared.word.Word.TheVariants as word
+use Rattle.reader.specs.Tokens.{EndAt, SymbolAt}
 use Rattle.reader.proofs.Lexing.{cut_more}
 use Rattle.pattern.specs.Texts.{counted, opened, names_of, open_of, token, at_end, Breaks, Sooner, FirstFault}
-use Rattle.pattern.specs.Parsing.{Usable, Shows, Ready, Goes, Refuses, Ended}
+use Rattle.pattern.specs.Parsing.{Shows, Goes, Refuses, Ended}
 use Rattle.pattern.specs.Verdicts.{Reading}
 use Rattle.pattern.specs.declared.parser.Parser.{Parser}
 use Rattle.pattern.proofs.Parsers.{levels_length, some_none}
 use Rattle.pattern.proofs.Verdict.{Good, names_more, open_more, first_byte, first_unknown, first_misplaced, first_names, first_nested, unbroken}
 
--- ---- the symbols of a text have labels and letters of the language
-capital_low : (b : ℕ) → class_of b ≡ Capital → b ≤ 72
-capital_low b e = grind (arith, nat_tests)
-
-word_usable : (w : Word) → Usable (meaning w)
-word_usable word.Free = omega arith
-word_usable word.Badge = omega arith
-word_usable word.Pin = omega arith
-word_usable word.Turn = omega arith
-word_usable word.Lift = omega arith
-word_usable word.Fire = omega arith
-word_usable word.Dock = omega arith
-word_usable word.Stair = omega arith
-word_usable word.Any = tt
-word_usable word.Empty = tt
-
-both : (P : Symbol → Type 0) (c : Bool) (s t : Symbol) → P s → P t → P (cond c s t)
-both P true s t x y = x
-both P false s t x y = y
-
-sign_usable : (b : ℕ) → Usable (sign_of b)
-sign_usable b =
-    both Usable (eqb b 94) _ _ tt (both Usable (eqb b 124) _ _ tt (both Usable (eqb b 42) _ _ tt (both Usable (eqb b 43) _ _ tt (both Usable (eqb b 63) _ _ tt (both Usable (eqb b 40) _ _ tt tt)))))
-
-pub usable : {text : List ℕ} {from : ℕ} {s : Symbol} {p q : ℕ} → SymbolAt text from s p q → Usable s
-usable (by_name w n e m) = subst Usable (sym m) (word_usable w)
-usable {text} {from} {s} {p} (lone (letter b e r)) = subst Usable (sym e) (omega (arith, capital_low (get_or text p 0) b.class))
-usable {text} {from} {s} {p} (lone (sign b e r)) = subst Usable (sym e) (sign_usable (get_or text p 0))
-
 -- ---- what one step does to the depth
-abbrev Deeper : Symbol → ℕ → Option State → Type 0
-Deeper s d None = Unit {0}
-Deeper s d (Some (at gs b q m)) = length gs ≡ opened s d
+-- the state, if there is one, has d open levels
+abbrev Lies : ℕ → Option State → Type 0
+Lies d None = Unit {0}
+Lies d (Some (at gs b q m)) = length gs ≡ d
 
-deeper : (fs : List Level) (b q : Option Tree) (m : Mode) (s : Symbol) → Deeper s (length fs) (step_at fs b q m s)
-deeper fs b q due (Name p) = refl
-deeper fs b q (named v) (Name p) = refl
-deeper fs b q (marking v) (Name p) = tt
-deeper fs b q (atomed v) (Name p) = refl
-deeper fs b q (itemed v) (Name p) = refl
-deeper fs b q due Empty = refl
-deeper fs b q (named v) Empty = refl
-deeper fs b q (marking v) Empty = tt
-deeper fs b q (atomed v) Empty = refl
-deeper fs b q (itemed v) Empty = refl
-deeper fs b q due (Letter l) = tt
-deeper fs b q (named v) (Letter l) = tt
-deeper fs b q (marking v) (Letter l) = refl
-deeper fs b q (atomed v) (Letter l) = tt
-deeper fs b q (itemed v) (Letter l) = tt
-deeper fs b q due Caret = tt
-deeper fs b q (named v) Caret = refl
-deeper fs b q (marking v) Caret = tt
-deeper fs b q (atomed v) Caret = tt
-deeper fs b q (itemed v) Caret = tt
-deeper fs b q due Bar = tt
-deeper fs b q (named v) Bar = refl
-deeper fs b q (marking v) Bar = tt
-deeper fs b q (atomed v) Bar = refl
-deeper fs b q (itemed v) Bar = refl
-deeper fs b q due (Repeat k) = tt
-deeper fs b q (named v) (Repeat k) = refl
-deeper fs b q (marking v) (Repeat k) = tt
-deeper fs b q (atomed v) (Repeat k) = refl
-deeper fs b q (itemed v) (Repeat k) = tt
-deeper fs b q due Open = sym (add-one (length fs))
-deeper fs b q (named v) Open = sym (add-one (length fs))
-deeper fs b q (marking v) Open = tt
-deeper fs b q (atomed v) Open = sym (add-one (length fs))
-deeper fs b q (itemed v) Open = sym (add-one (length fs))
-deeper [] b q m Close = tt
-deeper (level c p ∷ fs) b q due Close = tt
-deeper (level c p ∷ fs) b q (named v) Close = omega arith
-deeper (level c p ∷ fs) b q (marking v) Close = tt
-deeper (level c p ∷ fs) b q (atomed v) Close = omega arith
-deeper (level c p ∷ fs) b q (itemed v) Close = omega arith
+begun_lies : (fs : List Level) (b : Option Tree) (m : Mode) (o : Option (Option Tree)) → Lies (length fs) (machine.begun fs b m o)
+begun_lies fs b m None = tt
+begun_lies fs b m (Some q) = refl
+
+mode_lies : (fs : List Level) (b q : Option Tree) (o : Option Mode) → Lies (length fs) (machine.in_mode fs b q o)
+mode_lies fs b q None = tt
+mode_lies fs b q (Some m) = refl
+
+barred_lies : (fs : List Level) (b q o : Option Tree) → Lies (length fs) (machine.barred fs b q o)
+barred_lies fs b q None = tt
+barred_lies fs b q (Some t) = refl
+
+opened_lies : (fs : List Level) (b : Option Tree) (o : Option (Option Tree)) → Lies (length fs + 1) (machine.opened fs b o)
+opened_lies fs b None = tt
+opened_lies fs b (Some q) = sym (add-one (length fs))
+
+closed_lies : (fs : List Level) (b q o : Option Tree) → Lies (length fs - 1) (machine.closed fs b q o)
+closed_lies [] b q o = tt
+closed_lies (level c p ∷ fs) b q None = tt
+closed_lies (level c p ∷ fs) b q (Some t) = omega arith
+
+deeper : (fs : List Level) (b q : Option Tree) (m : Mode) (s : Symbol) → Lies (opened s (length fs)) (step_at fs b q m s)
+deeper fs b q m (Name p) = begun_lies fs b (named p) (machine.begin q m)
+deeper fs b q m Empty = begun_lies fs b (atomed empty) (machine.begin q m)
+deeper fs b q m (Letter l) = mode_lies fs b q (machine.lettered l m)
+deeper fs b q m Caret = mode_lies fs b q (machine.careted m)
+deeper fs b q m Bar = barred_lies fs b q (machine.ready m)
+deeper fs b q m (Repeat k) = mode_lies fs b q (machine.times_by k m)
+deeper fs b q m Open = opened_lies fs b (machine.begin q m)
+deeper fs b q m Close = closed_lies fs b q (machine.ready m)
 
 -- ---- the turns
 pub record Sofar (text : List ℕ) (from : ℕ) (p : Parser) : Type 0 where
@@ -153,18 +108,15 @@ some_run None = refl
 some_run (Some s) = refl
 
 module _ (text : List ℕ) (from : ℕ) (p : Parser) (h : Sofar text from p) where
-  pub is_ready : Ready p
-  is_ready = (names_of h.symbols, h.levels, h.sequences, h.items, h.last, h.shows)
-
   one_more : (s : Symbol) → run (Some start) (h.symbols ++ s ∷ []) ≡ step_at h.levels h.sequences h.items h.last s
   one_more s = run_++ (Some start) h.symbols (s ∷ []) ∙ ap (λ o. run o (s ∷ [])) h.ran ∙ some_run (step_at h.levels h.sequences h.items h.last s)
 
   -- a symbol is taken
-  pub again : (after : Parser) (s : Symbol) (place to : ℕ) → SymbolAt text from s place to → Goes h.levels h.sequences h.items h.last s (names_of h.symbols) after → Sofar text to after
+  pub again : (after : Parser) (s : Symbol) (place to : ℕ) → SymbolAt text from s place to → Goes h.levels h.sequences h.items h.last s (names_of h.symbols) (Shows after) → Sofar text to after
   again after s place to a g =
       let names : names_of (h.symbols ++ s ∷ []) ≡ counted s (names_of h.symbols) = names_more 0 h.symbols (s ∷ []) in
-      let now_open : open_of (h.symbols ++ s ∷ []) ≡ length g.levels = open_more 0 h.symbols (s ∷ []) ∙ ap (opened s) h.deep ∙ sym (subst (Deeper s (length h.levels)) g.step (deeper h.levels h.sequences h.items h.last s)) in
-      let depth : after.depth ≡ length g.levels = levels_length after.automaton g.shows.lo after.levels after.depth g.levels g.shows.levels in
+      let now_open : open_of (h.symbols ++ s ∷ []) ≡ length g.levels = open_more 0 h.symbols (s ∷ []) ∙ ap (opened s) h.deep ∙ sym (subst (Lies (opened s (length h.levels))) g.step (deeper h.levels h.sequences h.items h.last s)) in
+      let depth : after.levels.depth ≡ length g.levels = levels_length after.automaton g.shows.lo after.levels.held after.levels.depth g.levels g.shows.levels in
       let ran : run (Some start) (h.symbols ++ s ∷ []) ≡ Some (at g.levels g.sequences g.items g.last) = one_more s ∙ g.step in
       record {
         symbols = h.symbols ++ s ∷ [];
@@ -173,7 +125,7 @@ module _ (text : List ℕ) (from : ℕ) (p : Parser) (h : Sofar text from p) whe
           cut = cut_more text 0 from place to s h.symbols h.good.cut a;
           begins = alive (h.symbols ++ s ∷ []) (at g.levels g.sequences g.items g.last) ran;
           few = omega (arith, g.shows.few);
-          shallow = λ us vs e. shallow (omega (arith, g.shows.deep)) us (fronts s h.symbols us vs e);
+          shallow = λ us vs e. shallow (omega (arith, after.levels.deep)) us (fronts s h.symbols us vs e);
         };
         levels = g.levels;
         sequences = g.sequences;

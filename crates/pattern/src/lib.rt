@@ -11,6 +11,7 @@ ghost use Rattle.std.specs.Result.{MatchResult};
 ghost use Rattle.pattern.specs.Texts.{FaultOf, OneTree, OneVerdict};
 ghost use Rattle.pattern.specs.Verdicts.{Reading, Compiles};
 
+mod levels;
 mod parser;
 
 use automaton::Automaton;
@@ -36,13 +37,10 @@ fn compile(text: &[u8]) -> Result<Automaton, PatternFault>
     }
     let mut reader = Reader::new(text);
     let mut parser = Parser::new();
-    'tokens: loop {
-        let (next, place) = next_symbol(&mut reader)?;
-        let Some(symbol) = next else {
-            return parser.finish(place);
-        };
+    'tokens: while let (Some(symbol), place) = next_symbol(&mut reader)? {
         parser.take(symbol, place)?;
     }
+    parser.finish(text.len())
 }
 
 impl Pattern {
@@ -56,9 +54,7 @@ impl Pattern {
 }
 
 /// Carries the theorems that a text has at most one tree and at most one verdict.
-pub fn verdicts_stand() -> bool
+pub fn verdicts_stand()
     ensures tree { OneTree }
     ensures verdict { OneVerdict }
-{
-    true
-}
+{}

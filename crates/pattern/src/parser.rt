@@ -3,8 +3,9 @@ ghost use Rattle.std.specs.Prelude.{◌≡◌, ◌<◌, [], None as none};
 ghost use Rattle.grammar.specs.Machine.{due};
 ghost use Rattle.grammar.specs.declared.Symbol.TheVariants.{Name as name, Letter as letter, Caret as caret, Bar as bar, Repeat as repeat, Open as opens, Close as closes};
 ghost use Rattle.automaton.specs.Tables.{Known};
-ghost use Rattle.pattern.specs.Parsing.{Room, ItemRead, JoinedTo, EitherOf, Repeated, Shows, Ready, Usable, Settled, Closing, Took, Ended};
+ghost use Rattle.pattern.specs.Parts.{Room, room_prop, Repeated, Usable};
 
+use crate::levels::{Level, Levels};
 use automaton::{Automaton, Fragment};
 use fault::PatternFault;
 use grammar::{Symbol, Times};
@@ -12,9 +13,6 @@ use model::Label;
 
 // How many names a pattern may have.
 const MOST: usize = 31;
-
-// How many parentheses may be open together.
-const DEEPEST: usize = 16;
 
 /// What was read last: nothing, so that an atom is due; a name, which `^` may follow; a name and `^`, so that a letter is
 /// due; an atom, which `*`, `+` or `?` may follow; an item. A name gets its position when it is known to have no letter,
@@ -28,56 +26,15 @@ pub enum Mode {
     Item(Fragment),
 }
 
-/// What stands before an open parenthesis: the sequences before the last `|`, and the items behind it.
-#[derive(Clone, Copy)]
-pub struct Level {
-    pub sequences: Option<Fragment>,
-    pub items: Option<Fragment>,
-}
-
-/// The open levels, and since the innermost the sequences before the last `|`, the items behind it, and what was read
-/// last.
+/// The levels around the one that is read, that level, and what was read last. There is room for a name that has no
+/// position yet.
 #[derive(Clone, Copy)]
 pub struct Parser {
     pub automaton: Automaton,
-    pub levels: [Level; 16],
-    pub depth: usize,
-    pub sequences: Option<Fragment>,
-    pub items: Option<Fragment>,
+    pub levels: Levels,
+    pub level: Level,
     pub mode: Mode,
-}
-
-// The item that is read.
-fn item_read(automaton: &mut Automaton, mode: Mode, place: usize) -> Result<Fragment, PatternFault>
-    requires { Room automaton.old mode }
-    ensures { ItemRead automaton.old automaton.new mode place result }
-{
-    match mode {
-        Mode::Named(label) => Ok(automaton.name(label, 0)),
-        Mode::Atom(f) => Ok(f),
-        Mode::Item(f) => Ok(f),
-        _ => Err(PatternFault::Misplaced(place)),
-    }
-}
-
-// The item behind those before it.
-fn joined_to(automaton: &mut Automaton, items: Option<Fragment>, item: Fragment) -> Fragment
-    ensures { JoinedTo automaton.old automaton.new items item result }
-{
-    match items {
-        None => item,
-        Some(f) => automaton.sequence(f, item),
-    }
-}
-
-// The sequence or one of those before it.
-fn either_of(automaton: &Automaton, sequences: Option<Fragment>, sequence: Fragment) -> Fragment
-    ensures { EitherOf automaton.now sequences sequence result }
-{
-    match sequences {
-        None => sequence,
-        Some(f) => automaton.either(f, sequence),
-    }
+    pub ghost room: { Room automaton mode } by { room_prop automaton mode },
 }
 
 fn repeated(automaton: &mut Automaton, times: Times, atom: Fragment) -> Fragment
@@ -91,49 +48,55 @@ fn repeated(automaton: &mut Automaton, times: Times, atom: Fragment) -> Fragment
 }
 
 impl Parser {
+    ghost use Rattle.pattern.specs.Parsing.{Shows, ItemRead, Settled, Closing, Took, Ended};
+
     pub fn new() -> Parser
         ensures { Shows result 0 [] none none due }
     {
-        let level = Level {
-            sequences: None,
-            items: None,
-        };
         Parser {
             automaton: Automaton::new(),
-            levels: [level; 16],
-            depth: 0,
-            sequences: None,
-            items: None,
+            levels: Levels::new(),
+            level: Level::default(),
             mode: Mode::Due,
         }
     }
 
+    // The item that is read, behind which an atom is due.
+    fn item(&mut self, place: usize) -> Result<Fragment, PatternFault>
+        ensures { ItemRead self.old self.new place result }
+    {
+        let item = match self.mode {
+            Mode::Named(label) => self.automaton.name(label, 0),
+            Mode::Atom(f) | Mode::Item(f) => f,
+            Mode::Due | Mode::Marking(_) => return Err(PatternFault::Misplaced(place)),
+        };
+        self.mode = Mode::Due;
+        Ok(item)
+    }
+
     // An atom begins: the item that is read goes behind those before it.
     fn settle(&mut self, place: usize) -> Result<(), PatternFault>
-        requires { Ready self.old }
         ensures { Settled self.old self.new place result }
     {
         if let Mode::Due = self.mode {
             return Ok(());
         }
-        let item = item_read(&mut self.automaton, self.mode, place)?;
-        self.items = Some(joined_to(&mut self.automaton, self.items, item));
-        self.mode = Mode::Due;
+        let item = self.item(place)?;
+        self.level.items = Some(self.level.joined(&mut self.automaton, item));
         Ok(())
     }
 
     // What is read since the innermost open parenthesis ends here.
     fn pattern_read(&mut self, place: usize) -> Result<Fragment, PatternFault>
-        requires { Ready self.old }
         ensures { Closing self.old self.new place result }
     {
-        let item = item_read(&mut self.automaton, self.mode, place)?;
-        let sequence = joined_to(&mut self.automaton, self.items, item);
-        Ok(either_of(&self.automaton, self.sequences, sequence))
+        let item = self.item(place)?;
+        let sequence = self.level.joined(&mut self.automaton, item);
+        Ok(self.level.chosen(&self.automaton, sequence))
     }
 
     fn name(&mut self, label: Label, place: usize) -> Result<(), PatternFault>
-        requires { (Ready self.old) × (Known label) }
+        requires { Known label }
         ensures { Took self.old (name label) place result self.new }
     {
         self.settle(place)?;
@@ -145,7 +108,6 @@ impl Parser {
     }
 
     fn empty(&mut self, place: usize) -> Result<(), PatternFault>
-        requires { Ready self.old }
         ensures { Took self.old Symbol.Empty place result self.new }
     {
         self.settle(place)?;
@@ -154,7 +116,7 @@ impl Parser {
     }
 
     fn letter(&mut self, mark: u8, place: usize) -> Result<(), PatternFault>
-        requires { (Ready self.old) × (mark < 9) }
+        requires { mark < 9 }
         ensures { Took self.old (letter mark) place result self.new }
     {
         let Mode::Marking(label) = self.mode else {
@@ -165,7 +127,6 @@ impl Parser {
     }
 
     fn caret(&mut self, place: usize) -> Result<(), PatternFault>
-        requires { Ready self.old }
         ensures { Took self.old caret place result self.new }
     {
         let Mode::Named(label) = self.mode else {
@@ -176,65 +137,51 @@ impl Parser {
     }
 
     fn bar(&mut self, place: usize) -> Result<(), PatternFault>
-        requires { Ready self.old }
         ensures { Took self.old bar place result self.new }
     {
         let all = self.pattern_read(place)?;
-        self.sequences = Some(all);
-        self.items = None;
-        self.mode = Mode::Due;
+        self.level = Level {
+            sequences: Some(all),
+            items: None,
+        };
         Ok(())
     }
 
     fn repeat(&mut self, times: Times, place: usize) -> Result<(), PatternFault>
-        requires { Ready self.old }
         ensures { Took self.old (repeat times) place result self.new }
     {
         if let Mode::Item(_) = self.mode {
             return Err(PatternFault::Misplaced(place));
         }
-        let atom = item_read(&mut self.automaton, self.mode, place)?;
+        let atom = self.item(place)?;
         self.mode = Mode::Item(repeated(&mut self.automaton, times, atom));
         Ok(())
     }
 
     fn open(&mut self, place: usize) -> Result<(), PatternFault>
-        requires { Ready self.old }
         ensures { Took self.old opens place result self.new }
     {
         self.settle(place)?;
-        if self.depth >= DEEPEST {
-            return Err(PatternFault::Nested(place));
-        }
-        self.levels[self.depth] = Level {
-            sequences: self.sequences,
-            items: self.items,
-        };
-        self.depth += 1;
-        self.sequences = None;
-        self.items = None;
+        self.levels
+            .push(self.level)
+            .ok_or(PatternFault::Nested(place))?;
+        self.level = Level::default();
         Ok(())
     }
 
     fn close(&mut self, place: usize) -> Result<(), PatternFault>
-        requires { Ready self.old }
         ensures { Took self.old closes place result self.new }
     {
         let all = self.pattern_read(place)?;
-        if self.depth == 0 {
-            return Err(PatternFault::Misplaced(place));
-        }
-        self.depth -= 1;
-        let outer = self.levels[self.depth];
-        self.sequences = outer.sequences;
-        self.items = outer.items;
+        self.level = self.levels.pop().ok_or(PatternFault::Misplaced(place))?;
         self.mode = Mode::Atom(all);
         Ok(())
     }
 
-    /// Takes one symbol, or says what is wrong with it.
+    /// Takes one symbol, or says what is wrong with it. The type has more labels and letters than a text can have, so the
+    /// caller shows that this symbol has none of those.
     pub fn take(&mut self, symbol: Symbol, place: usize) -> Result<(), PatternFault>
-        requires { (Ready self.old) × (Usable symbol) }
+        requires { Usable symbol }
         ensures { Took self.old symbol place result self.new }
     {
         match symbol {
@@ -251,14 +198,14 @@ impl Parser {
 
     /// The automaton of the whole, at the end of the text.
     pub fn finish(&mut self, place: usize) -> Result<Automaton, PatternFault>
-        requires { Ready self.old }
         ensures { Ended self.old place result }
     {
         let all = self.pattern_read(place)?;
-        if self.depth > 0 {
+        if self.levels.depth > 0 {
             return Err(PatternFault::Misplaced(place));
         }
-        self.automaton.finish(all);
-        Ok(self.automaton)
+        let mut whole = self.automaton;
+        whole.finish(all);
+        Ok(whole)
     }
 }

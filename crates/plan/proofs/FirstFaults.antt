@@ -2,6 +2,7 @@
 use Rattle.std.proofs.Common.{◌≡◌, ℕ, zero, suc, ◌+◌, ◌-◌, ◌<◌, ◌≤◌, min, Bool, true, false, cond, not, ◌||◌, eqb, ltb, leb, ◌⊎◌, List, length, is_some, Some, None, Option, sym, refl, ap, ◌∙◌, subst, inl, inr, arith, ltb-false, ltb-true, ne_eqb, eqb-true, leb-false, leb-true}
 use native.Mathlib.Decide.{dec_lt}
 use borrow.Author.Tests.{eqb-false, not-true}
+use Rattle.std.proofs.lemmas.Bool.{or_cases, or_parts}
 use Rattle.fault.specs.declared.PlanFault.{PlanFault}
 use Rattle.fault.specs.declared.PlanFault.TheVariants.{Short, Zones, Passages, Length, Entry, Repeated, Destination, Kind}
 use Rattle.plan.specs.First.{when, or_else, first_below}
@@ -17,21 +18,21 @@ record Turned (b : List ℕ) (g : PlanFault) : Type 0 where
   many : turn g ≡ 2 → 256 < count_of b
   sized : turn g ≡ 3 → length b ≡ size_of b → ⊥
 
+past_turns : (b : List ℕ) (g : PlanFault) → 4 ≤ turn g → Turned b g
+past_turns b g l = record { short = λ e. omega arith; zones = λ e m n. omega arith; many = λ e. omega arith; sized = λ e m. omega arith }
+
 turned : (b : List ℕ) {g : PlanFault} → Breaks b g → Turned b g
 turned b (under_three l) = record { short = λ e. l; zones = λ e m n. omega arith; many = λ e. omega arith; sized = λ e m. omega arith }
 turned b (no_zone l) = record { short = λ e. omega arith; zones = λ e m n. omega arith; many = λ e. omega arith; sized = λ e m. omega arith }
 turned b (over_64 l) = record { short = λ e. omega arith; zones = λ e m n. omega arith; many = λ e. omega arith; sized = λ e m. omega arith }
 turned b (over_256 l) = record { short = λ e. omega arith; zones = λ e m n. omega arith; many = λ e. l; sized = λ e m. omega arith }
 turned b (other_length l) = record { short = λ e. omega arith; zones = λ e m n. omega arith; many = λ e. omega arith; sized = λ e m. l m }
-turned b (not_from_0 l) = later (entry_place 0)
-  where
-    later : (k : ℕ) → Turned b (Entry k)
-    later k = record { short = λ e. omega arith; zones = λ e m n. omega arith; many = λ e. omega arith; sized = λ e m. omega arith }
-turned b (falls z h l) = record { short = λ e. omega arith; zones = λ e m n. omega arith; many = λ e. omega arith; sized = λ e m. omega arith }
-turned b (passes z h l) = record { short = λ e. omega arith; zones = λ e m n. omega arith; many = λ e. omega arith; sized = λ e m. omega arith }
-turned b (repeats j i k h l) = record { short = λ e. omega arith; zones = λ e m n. omega arith; many = λ e. omega arith; sized = λ e m. omega arith }
-turned b (leads_out i h l) = record { short = λ e. omega arith; zones = λ e m n. omega arith; many = λ e. omega arith; sized = λ e m. omega arith }
-turned b (no_kind i h l) = record { short = λ e. omega arith; zones = λ e m n. omega arith; many = λ e. omega arith; sized = λ e m. omega arith }
+turned b (not_from_0 l) = past_turns b _ (omega arith)
+turned b (falls z h l) = past_turns b _ (omega arith)
+turned b (passes z h l) = past_turns b _ (omega arith)
+turned b (repeats j i k h l) = past_turns b _ (omega arith)
+turned b (leads_out i h l) = past_turns b _ (omega arith)
+turned b (no_kind i h l) = past_turns b _ (omega arith)
 
 -- past the first tests nothing that comes early is broken
 past_length : (b : List ℕ) → 3 ≤ length b → (g : PlanFault) → Breaks b g → 1 ≤ turn g
@@ -143,14 +144,6 @@ split_or None p f e = inr (refl, e)
 be : (b : List ℕ) {f g : PlanFault} → f ≡ g → FirstFault b f → FirstFault b g
 be b e y = subst (FirstFault b) e y
 
-zones_either : (a c : Bool) → (a || c) ≡ true → (a ≡ true) ⊎ (c ≡ true)
-zones_either true c e = inl refl
-zones_either false c e = inr e
-
-zones_neither : (a c : Bool) → (a || c) ≡ false → (a ≡ false) × (c ≡ false)
-zones_neither true c e = absurd (let z : ◌≡◌ {A = ℕ} 0 1 = cc in omega arith)
-zones_neither false c e = (refl, e)
-
 head_first : (b : List ℕ) (f : PlanFault) → head_fault b ≡ Some f → FirstFault b f
 head_first b f e = first (split_when (ltb (length b) 3) (Short (length b)) _ f e)
   where
@@ -163,11 +156,11 @@ head_first b f e = first (split_when (ltb (length b) 3) (Short (length b)) _ f e
 
     zoned : 3 ≤ length b → (((eqb (zone_count_of b) 0 || ltb 64 (zone_count_of b)) ≡ true) × (Zones 0 ≡ f)) ⊎ (((eqb (zone_count_of b) 0 || ltb 64 (zone_count_of b)) ≡ false) × (or_else (when (ltb 256 (count_of b)) (Passages 1)) (when (not (eqb (length b) (size_of b))) (Length (min (length b) (size_of b)))) ≡ Some f)) → FirstFault b f
     zoned l (inl y) = be b y.1 (record {
-      broken = elim (zones_either (eqb (zone_count_of b) 0) (ltb 64 (zone_count_of b)) y.0) [ inl q ↦ no_zone (eqb-true (zone_count_of b) 0 q) | inr q ↦ over_64 (ltb-true 64 (zone_count_of b) q) ];
+      broken = elim (or_cases (eqb (zone_count_of b) 0) (ltb 64 (zone_count_of b)) y.0) [ inl q ↦ no_zone (eqb-true (zone_count_of b) 0 q) | inr q ↦ over_64 (ltb-true 64 (zone_count_of b) q) ];
       first = λ g q. past_length b l g q;
     })
     zoned l (inr y) =
-        let n = zones_neither (eqb (zone_count_of b) 0) (ltb 64 (zone_count_of b)) y.0 in
+        let n = or_parts (eqb (zone_count_of b) 0) (ltb 64 (zone_count_of b)) y.0 in
         let z : zone_count_of b ≡ 0 → ⊥ = eqb-false (zone_count_of b) 0 n.0 in
         counted l (omega (arith, z)) (ltb-false 64 (zone_count_of b) n.1) (split_when (ltb 256 (count_of b)) (Passages 1) _ f y.1)
 
@@ -176,12 +169,12 @@ head_first b f e = first (split_when (ltb (length b) 3) (Short (length b)) _ f e
     first (inr y) = zoned (ltb-false (length b) 3 y.0) (split_when (eqb (zone_count_of b) 0 || ltb 64 (zone_count_of b)) (Zones 0) _ f y.1)
 
 entry_breaks : (b : List ℕ) (z : ℕ) → z < zone_count_of b → bad_entry_lem b z ≡ true → Breaks b (Entry (entry_place z))
-entry_breaks b zero l e = elim (zones_either (not (eqb (entry_of b 0) 0)) (ltb (count_of b) (entry_of b 0)) e)
+entry_breaks b zero l e = elim (or_cases (not (eqb (entry_of b 0) 0)) (ltb (count_of b) (entry_of b 0)) e)
     [ inl q ↦ not_from_0 (eqb-false (entry_of b 0) 0 (not-true _ q)) | inr q ↦ passes 0 l (ltb-true (count_of b) (entry_of b 0) q) ]
 entry_breaks b (suc z) l e =
     let n : eqb (suc z) 0 ≡ false = ne_eqb (suc z) 0 (λ q. omega arith) in
     let p : suc z - 1 ≡ z = omega arith in
-    elim (zones_either (cond (eqb (suc z) 0) (not (eqb (entry_of b (suc z)) 0)) (ltb (entry_of b (suc z)) (entry_of b (suc z - 1)))) (ltb (count_of b) (entry_of b (suc z))) e) [
+    elim (or_cases (cond (eqb (suc z) 0) (not (eqb (entry_of b (suc z)) 0)) (ltb (entry_of b (suc z)) (entry_of b (suc z - 1)))) (ltb (count_of b) (entry_of b (suc z))) e) [
       | inl q ↦ falls z l (subst (λ (y : ℕ). entry_of b (suc z) < entry_of b y) p (ltb-true _ _ (ap (λ t. cond t (not (eqb (entry_of b (suc z)) 0)) (ltb (entry_of b (suc z)) (entry_of b (suc z - 1)))) (sym n) ∙ q)))
       | inr q ↦ passes (suc z) l (ltb-true (count_of b) (entry_of b (suc z)) q)
     ]

@@ -1,7 +1,7 @@
-use Rattle.std.proofs.Common.{◌≡◌, ℕ, ◌<◌, ◌≤◌, Bool, true, false, cond, ltb, List, Some, None, Option, sym, refl, ap, ◌∙◌, subst, arith, ltb-true, lt-ltb}
+use Rattle.std.proofs.Common.{◌≡◌, ℕ, ◌+◌, ◌<◌, ◌≤◌, Bool, true, false, cond, ltb, List, Some, None, Option, sym, refl, ap, ◌∙◌, subst, arith, ltb-true, ltb-false, lt-ltb}
 use Rattle.model.specs.Plans.{Passage, LeavesBy, Leaves, LeastLeaving}
-use Rattle.plan.specs.Filed.{zone_count_of, count_of, entry_of, number_of, body_below_lem, passage_by, filed_passage, end_of, LeastAmong}
-use Rattle.plan.specs.FiledFacts.{Kept, body_of, body_own, owned, owner_own, owner_ends, end_fits}
+use Rattle.plan.specs.Filed.{zone_count_of, count_of, entry_of, number_of, body_below_lem, passage_by, filed_passage, start_of, end_of, LeastAmong}
+use Rattle.plan.specs.FiledFacts.{Kept, body_of, body_own, owned, owner_own, owner_ends, entry_ends, end_fits, end_last}
 
 pub record LeftBy (b : List ℕ) (z n : ℕ) : Type 0 where
   pub low : n < 256
@@ -54,3 +54,19 @@ least_leaving b k z from None l h =
 
 pub none_leaving : (b : List ℕ) → Kept b → (z from : ℕ) → zone_count_of b ≤ z → LeastLeaving (filed_passage b) z from None
 none_leaving b k z from l y p s = let r = left_by b k z y s in let g = r.zone in omega arith
+
+-- the bodies of a zone stand from its start to the next one's, and past the last zone there is none
+pub starts_rise : (b : List ℕ) → Kept b → (z : ℕ) → (start_of b z ≤ start_of b (z + 1)) × (start_of b (z + 1) ≤ count_of b)
+starts_rise b k z = go (ltb z (zone_count_of b)) refl
+  where
+    go : (t : Bool) → ltb z (zone_count_of b) ≡ t → (cond t (entry_of b z) (count_of b) ≤ start_of b (z + 1)) × (start_of b (z + 1) ≤ count_of b)
+    go true e = let l = ltb-true z (zone_count_of b) e in (entry_ends b k z l, end_fits b k z l)
+    go false e = let n = end_last b z (omega (arith, ltb-false z (zone_count_of b) e)) in (omega (arith, n), omega (arith, n))
+
+pub leaving_from : (b : List ℕ) → Kept b → (z from : ℕ) (o : Option ℕ) → LeastAmong b (start_of b z) (start_of b (z + 1)) from o → LeastLeaving (filed_passage b) z from o
+leaving_from b k z from o h = go (ltb z (zone_count_of b)) refl o h
+  where
+    go : (t : Bool) → ltb z (zone_count_of b) ≡ t → (o : Option ℕ) → LeastAmong b (cond t (entry_of b z) (count_of b)) (start_of b (z + 1)) from o → LeastLeaving (filed_passage b) z from o
+    go true e o h = least_leaving b k z from o (ltb-true z (zone_count_of b) e) h
+    go false e (Some n) h = let f = (starts_rise b k z).1 in let p = h.not_before in let q = h.within in absurd (omega arith)
+    go false e None h = none_leaving b k z from (ltb-false z (zone_count_of b) e)

@@ -1,5 +1,5 @@
 -- What the bytes of a filed plan mean, and the first fault in them.
-use Rattle.std.specs.Prelude.{◌≡◌, ℕ, zero, suc, ◌+◌, ◌-◌, ◌*◌, ◌<◌, ◌≤◌, min, Bool, true, cond, not, ◌||◌, List, length, is_some, Some, None, Option, ◌==◌, nat_le, nat_lt, slice_index}
+use Rattle.std.specs.Prelude.{◌≡◌, ℕ, zero, suc, ◌+◌, ◌-◌, ◌*◌, ◌<◌, ◌≤◌, min, Bool, cond, not, ◌||◌, List, length, is_some, Some, None, Option, ◌==◌, nat_le, nat_lt, slice_index}
 use Rattle.fault.specs.declared.PlanFault.{PlanFault}
 use Rattle.fault.specs.declared.PlanFault.TheVariants.{Short, Zones, Passages, Length, Entry, Repeated, Destination, Kind}
 use Rattle.fault.specs.declared.Fault.{Fault}
@@ -93,6 +93,10 @@ pub record Framed (b : List ℕ) : Type 0 where
 abbrev pub accepted : List ℕ → Bool
 accepted b = not (is_some (file_fault b))
 
+-- where the bodies of zone z start, and past the last zone how many there are
+abbrev pub start_of : List ℕ → ℕ → ℕ
+start_of b z = cond (nat_lt z (zone_count_of b)) (entry_of b z) (count_of b)
+
 -- where the bodies of zone z end
 abbrev pub end_of : List ℕ → ℕ → ℕ
 end_of b z = cond (nat_lt (z + 1) (zone_count_of b)) (entry_of b (z + 1)) (count_of b)
@@ -111,15 +115,6 @@ abbrev pub LeastAmong : List ℕ → ℕ → ℕ → ℕ → Option ℕ → Type
 LeastAmong b first end from (Some n) = Among b first end from n
 LeastAmong b first end from None = (j : ℕ) → first ≤ j → j < end → from ≤ number_of b j → ⊥
 
-abbrev pub is_lower : ℕ → Option ℕ → Bool
-is_lower n (Some m) = nat_lt n m
-is_lower n None = true
-
 abbrev pub layered : Option PlanFault → Option Fault
 layered (Some f) = Some (Plan f)
 layered None = None
-
--- a body's place in an index by number, where 256 is none
-abbrev pub slot_of : Option ℕ → ℕ
-slot_of (Some i) = i
-slot_of None = 256

@@ -1,19 +1,11 @@
 use Rattle.std.specs.Prelude.{◌≡◌, ℕ, zero, suc, ◌+◌, ◌-◌, ◌<◌, ◌≤◌, Bool, true, false, cond, not, ◌||◌, ltb, leb, ◌⊎◌, List, length, is_some, Some, None, Option, ◌==◌, nat_eq, nat_le, nat_lt, refl}
 use Rattle.std.proofs.Common.{sym, ◌∙◌, ap, subst, inl, inr, ⊎_elim, arith, eq-or-lt_of_le, le_of_suc-le-suc, add-one, ltb-false, leb-false, leb-true, eqb-true, ltb-true, lt-ltb, le-ltb, le-leb, eq-eqb, ne_eqb}
-use Rattle.std.proofs.lemmas.Bool.{eqb-false, not-false, lt-leb}
+use Rattle.std.proofs.lemmas.Bool.{eqb-false, not-false, lt-leb, or_parts}
 use Rattle.fault.specs.declared.PlanFault.{PlanFault}
 use Rattle.fault.specs.declared.PlanFault.TheVariants.{Short, Zones, Passages, Repeated, Destination}
 use Rattle.plan.specs.First.{when, or_else, first_below}
 use Rattle.plan.specs.Filed.{zone_count_of, count_of, size_of, entry_of, body_place_lem, number_of, destination_of, kind_of, body_below_lem, owner_below, head_fault, bad_entry_lem, entry_fault, body_fault, file_fault, accepted, Framed, end_of}
 use Rattle.plan.specs.FirstFacts.{or_left, or_right, when_none, first_at, none_at, came}
-
-either_left : (a b : Bool) → (a || b) ≡ false → a ≡ false
-either_left true b e = e
-either_left false b e = refl
-
-either_right : (a b : Bool) → (a || b) ≡ false → b ≡ false
-either_right true b e = absurd (let z : ◌≡◌ {A = ℕ} 0 1 = cc in omega arith)
-either_right false b e = e
 
 pub no_some : {A : Type 0} (o : Option A) → is_some o ≡ false → o ≡ None
 no_some (Some x) e = absurd (let z : ◌≡◌ {A = ℕ} 0 1 = cc in omega arith)
@@ -32,11 +24,11 @@ framed b e =
     let t1 = when_none (zone_count_of b == 0 || nat_lt 64 (zone_count_of b)) _ (or_left _ _ e1) in
     let t2 = when_none (nat_lt 256 (count_of b)) _ (or_left _ _ e2) in
     let t3 = when_none (not (length b == size_of b)) _ e3 in
-    let n : zone_count_of b ≡ 0 → ⊥ = eqb-false (zone_count_of b) 0 (either_left (zone_count_of b == 0) _ t1) in
+    let n : zone_count_of b ≡ 0 → ⊥ = eqb-false (zone_count_of b) 0 (or_parts (zone_count_of b == 0) _ t1).0 in
     record {
       long = ltb-false (length b) 3 t0;
       some_zone = omega (arith, n);
-      few_zones = ltb-false 64 (zone_count_of b) (either_right (zone_count_of b == 0) _ t1);
+      few_zones = ltb-false 64 (zone_count_of b) (or_parts (zone_count_of b == 0) _ t1).1;
       few_passages = ltb-false 256 (count_of b) t2;
       sized = eqb-true (length b) (size_of b) (not-false _ t3);
     }
@@ -80,16 +72,16 @@ sound_by b h e f = ap (λ o. or_else o (or_else (first_below (entry_fault b) (zo
 
 -- what one test of an entry leaves
 pub entry_fits : (b : List ℕ) (z : ℕ) → bad_entry_lem b z ≡ false → entry_of b z ≤ count_of b
-entry_fits b z e = ltb-false (count_of b) (entry_of b z) (either_right (cond (z == 0) (not (entry_of b z == 0)) (nat_lt (entry_of b z) (entry_of b (z - 1)))) _ e)
+entry_fits b z e = ltb-false (count_of b) (entry_of b z) (or_parts (cond (z == 0) (not (entry_of b z == 0)) (nat_lt (entry_of b z) (entry_of b (z - 1)))) _ e).1
 
 pub entry_zero : (b : List ℕ) → bad_entry_lem b 0 ≡ false → entry_of b 0 ≡ 0
-entry_zero b e = eqb-true (entry_of b 0) 0 (not-false _ (either_left (not (entry_of b 0 == 0)) _ e))
+entry_zero b e = eqb-true (entry_of b 0) 0 (not-false _ (or_parts (not (entry_of b 0 == 0)) _ e).0)
 
 pub entry_step : (b : List ℕ) (z : ℕ) → bad_entry_lem b (suc z) ≡ false → entry_of b z ≤ entry_of b (suc z)
 entry_step b z e =
     let p : suc z - 1 ≡ z = omega arith in
     let n : nat_eq (suc z) 0 ≡ false = ne_eqb (suc z) 0 (λ q. omega arith) in
-    let h = either_left (cond (suc z == 0) (not (entry_of b (suc z) == 0)) (nat_lt (entry_of b (suc z)) (entry_of b (suc z - 1)))) _ e in
+    let h = (or_parts (cond (suc z == 0) (not (entry_of b (suc z) == 0)) (nat_lt (entry_of b (suc z)) (entry_of b (suc z - 1)))) _ e).0 in
     let g : ltb (entry_of b (suc z)) (entry_of b (suc z - 1)) ≡ false = ap (λ t. cond t (not (entry_of b (suc z) == 0)) (nat_lt (entry_of b (suc z)) (entry_of b (suc z - 1)))) (sym n) ∙ h in
     subst (λ (y : ℕ). entry_of b y ≤ entry_of b (suc z)) p (ltb-false _ _ g)
 

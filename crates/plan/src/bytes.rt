@@ -1,204 +1,204 @@
-// What stands in the bytes of a filed plan, and whether they are in order.
-ghost use Rattle.std.specs.Prelude.{◌≡◌, ℕ, ◌+◌, ◌*◌, ◌<◌, ◌≤◌, true, length, Some, None, MatchResult, slice_index};
-ghost use Rattle.model.specs.Plans.{triple, LeastLeaving};
-ghost use Rattle.plan.specs.First.{first_below};
-ghost use Rattle.plan.specs.Filed.{Framed, word_at, zone_count_of, count_of, entry_of, body_place_lem, number_of, body_below_lem, owner_below, head_fault, bad_entry_lem, entry_fault, body_fault, file_fault, end_of, LeastAmong, is_lower, accepted, slot_of, filed_passage};
+// The bytes of a plan file, and whether they are in order.
+ghost use Rattle.std.specs.Prelude.{◌≡◌, ℕ, ◌+◌, ◌*◌, ◌<◌, ◌≤◌, true, length, is_some, IfOk, slice_index_or, None};
+ghost use Rattle.plan.specs.First.{first_below, FaultIs};
+ghost use Rattle.plan.specs.Filed.{Framed, word_at, zone_count_of, count_of, body_place_lem, number_of, destination_of, kind_of, body_below_lem, owner_below, head_fault, entry_fault, body_fault, file_fault, start_of, LeastAmong, accepted};
 
 use fault::PlanFault;
 
-pub(crate) fn word(bytes: &[u8], at: usize) -> usize
+/// A file as long as its head says, with 1 to 64 zones and at most 256 passages.
+#[derive(Clone, Copy)]
+pub(crate) struct PlanFile<'a> {
+    pub(crate) bytes: &'a [u8],
+    ghost framed: { Framed bytes.now },
+}
+
+/// What stands in a body: the number of a passage, its destination and its kind.
+#[derive(Clone, Copy)]
+pub(crate) struct Body {
+    pub(crate) number: u8,
+    pub(crate) destination: u8,
+    pub(crate) kind: u8,
+}
+
+fn word(bytes: &[u8], at: usize) -> usize
     requires { at + 1 < length bytes.now }
     ensures { result ≡ word_at bytes.now at }
 {
-    bytes[at] as usize + 256 * bytes[at + 1] as usize
+    u16::from_le_bytes([bytes[at], bytes[at + 1]]) as usize
 }
 
-pub(crate) fn check_head(bytes: &[u8]) -> Result<(), PlanFault>
-    ensures { MatchResult result (λ _. head_fault bytes.now ≡ None) (λ f. head_fault bytes.now ≡ Some f) }
-{
-    let length = bytes.len();
-    if length < 3 {
-        return Err(PlanFault::Short(length));
+impl<'a> PlanFile<'a> {
+    /// The file, or its first fault.
+    pub(crate) fn open(bytes: &'a [u8]) -> Result<PlanFile<'a>, PlanFault>
+        ensures fault { FaultIs (file_fault bytes.now) result }
+        ensures bytes { IfOk result (λ f. f.bytes.now ≡ bytes.now) }
+    {
+        let file = PlanFile::framed(bytes)?;
+        file.check_entries()?;
+        file.check_bodies()?;
+        Ok(file)
     }
-    let zones = bytes[0] as usize;
-    if zones == 0 || zones > 64 {
-        return Err(PlanFault::Zones(0));
-    }
-    let count = word(bytes, 1);
-    if count > 256 {
-        return Err(PlanFault::Passages(1));
-    }
-    let size = 3 + 2 * zones + 3 * count;
-    if length != size {
-        return Err(PlanFault::Length(length.min(size)));
-    }
-    Ok(())
-}
 
-fn bad_entry(bytes: &[u8], zone: usize) -> bool
-    requires { (Framed bytes.now) × (zone < zone_count_of bytes.now) }
-    ensures { result ≡ bad_entry_lem bytes.now zone }
-{
-    let entry = word(bytes, 3 + 2 * zone);
-    let count = word(bytes, 1);
-    if zone == 0 {
-        entry != 0 || entry > count
-    } else {
-        entry < word(bytes, 3 + 2 * (zone - 1)) || entry > count
+    /// The file, or the first fault of its head.
+    fn framed(bytes: &'a [u8]) -> Result<PlanFile<'a>, PlanFault>
+        ensures fault { FaultIs (head_fault bytes.now) result }
+        ensures bytes { IfOk result (λ f. f.bytes.now ≡ bytes.now) }
+    {
+        let length = bytes.len();
+        if length < 3 {
+            return Err(PlanFault::Short(length));
+        }
+        let zones = bytes[0] as usize;
+        if zones == 0 || zones > 64 {
+            return Err(PlanFault::Zones(0));
+        }
+        let count = word(bytes, 1);
+        if count > 256 {
+            return Err(PlanFault::Passages(1));
+        }
+        let size = 3 + 2 * zones + 3 * count;
+        if length != size {
+            return Err(PlanFault::Length(length.min(size)));
+        }
+        Ok(PlanFile { bytes })
     }
-}
 
-pub(crate) fn check_entries(bytes: &[u8]) -> Result<(), PlanFault>
-    requires { Framed bytes.now }
-    ensures { MatchResult result (λ _. first_below (entry_fault bytes.now) (zone_count_of bytes.now) ≡ None) (λ f. first_below (entry_fault bytes.now) (zone_count_of bytes.now) ≡ Some f) }
-{
-    for zone in 0..bytes[0] as usize {
-        if bad_entry(bytes, zone) {
+    pub(crate) fn zones(&self) -> u8
+        ensures { result ≡ zone_count_of self.now.bytes.now }
+    {
+        self.bytes[0]
+    }
+
+    fn count(&self) -> usize
+        ensures { result ≡ count_of self.now.bytes.now }
+    {
+        word(self.bytes, 1)
+    }
+
+    /// Where the bodies of the zone start, and past the last zone how many bodies there are.
+    pub(crate) fn start(&self, zone: usize) -> usize
+        ensures { result ≡ start_of self.now.bytes.now zone }
+    {
+        if zone < self.zones() as usize {
+            word(self.bytes, 3 + 2 * zone)
+        } else {
+            self.count()
+        }
+    }
+
+    fn place(&self, body: usize) -> usize
+        requires { body ≤ 256 }
+        ensures { result ≡ body_place_lem self.now.bytes.now body }
+    {
+        3 + 2 * self.zones() as usize + 3 * body
+    }
+
+    pub(crate) fn body(&self, body: usize) -> Body
+        requires { body < count_of self.now.bytes.now }
+        ensures number { result.number ≡ number_of self.now.bytes.now body }
+        ensures destination { result.destination ≡ destination_of self.now.bytes.now body }
+        ensures kind { result.kind ≡ kind_of self.now.bytes.now body }
+    {
+        let at = self.place(body);
+        Body {
+            number: self.bytes[at],
+            destination: self.bytes[at + 1],
+            kind: self.bytes[at + 2],
+        }
+    }
+
+    /// The zone that the body belongs to: the last that does not start after it.
+    pub(crate) fn owner(&self, body: usize) -> u8
+        ensures { result ≡ owner_below self.now.bytes.now body (zone_count_of self.now.bytes.now) }
+    {
+        (0..self.zones())
+            .rev()
+            .find(|zone| self.start(*zone as usize) <= body)
+            .unwrap_or(0)
+    }
+
+    fn check_entry(&self, zone: usize) -> Result<(), PlanFault>
+        requires { zone < zone_count_of self.now.bytes.now }
+        ensures { FaultIs (entry_fault self.now.bytes.now zone) result }
+    {
+        let start = self.start(zone);
+        let starts_wrongly = if zone == 0 {
+            start != 0
+        } else {
+            start < self.start(zone - 1)
+        };
+        if starts_wrongly || start > self.count() {
             return Err(PlanFault::Entry(3 + 2 * zone));
         }
+        Ok(())
     }
-    Ok(())
-}
 
-pub(crate) fn body_place(bytes: &[u8], body: usize) -> usize
-    requires { (Framed bytes.now) × (body ≤ 256) }
-    ensures { result ≡ body_place_lem bytes.now body }
-{
-    3 + 2 * bytes[0] as usize + 3 * body
-}
+    fn check_entries(&self) -> Result<(), PlanFault>
+        ensures { FaultIs (first_below (entry_fault self.now.bytes.now) (zone_count_of self.now.bytes.now)) result }
+    {
+        (0..self.zones() as usize).try_for_each(|zone| self.check_entry(zone))
+    }
 
-pub(crate) fn body_below(bytes: &[u8], number: u8, count: usize) -> Option<usize>
-    requires { (Framed bytes.now) × (count ≤ count_of bytes.now) }
-    ensures { result ≡ body_below_lem bytes.now number count }
-{
-    for body in 0..count {
-        if bytes[body_place(bytes, body)] == number {
-            return Some(body);
+    /// Whether one of the first `count` bodies has the number.
+    fn has_number(&self, number: u8, count: usize) -> bool
+        requires { count ≤ count_of self.now.bytes.now }
+        ensures { result ≡ is_some (body_below_lem self.now.bytes.now number count) }
+    {
+        (0..count).any(|body| self.body(body).number == number)
+    }
+
+    fn check_body(&self, body: usize) -> Result<(), PlanFault>
+        requires { body < count_of self.now.bytes.now }
+        ensures { FaultIs (body_fault self.now.bytes.now body) result }
+    {
+        let at = self.place(body);
+        let Body {
+            number,
+            destination,
+            kind,
+        } = self.body(body);
+        if self.has_number(number, body) {
+            return Err(PlanFault::Repeated(at));
         }
-    }
-    None
-}
-
-fn check_body(bytes: &[u8], body: usize) -> Result<(), PlanFault>
-    requires { (Framed bytes.now) × (body < count_of bytes.now) }
-    ensures { MatchResult result (λ _. body_fault bytes.now body ≡ None) (λ f. body_fault bytes.now body ≡ Some f) }
-{
-    let at = body_place(bytes, body);
-    if body_below(bytes, bytes[at], body).is_some() {
-        return Err(PlanFault::Repeated(at));
-    }
-    if bytes[at + 1] >= bytes[0] {
-        return Err(PlanFault::Destination(at + 1));
-    }
-    if bytes[at + 2] > 7 {
-        return Err(PlanFault::Kind(at + 2));
-    }
-    Ok(())
-}
-
-pub(crate) fn check_bodies(bytes: &[u8]) -> Result<(), PlanFault>
-    requires { Framed bytes.now }
-    ensures { MatchResult result (λ _. first_below (body_fault bytes.now) (count_of bytes.now) ≡ None) (λ f. first_below (body_fault bytes.now) (count_of bytes.now) ≡ Some f) }
-{
-    let count = word(bytes, 1);
-    for body in 0..count {
-        check_body(bytes, body)?;
-    }
-    Ok(())
-}
-
-pub(crate) fn owner(bytes: &[u8], body: usize) -> u8
-    requires { Framed bytes.now }
-    ensures { result ≡ owner_below bytes.now body (zone_count_of bytes.now) }
-{
-    let mut owner = 0;
-    for zone in 0..bytes[0] {
-        if word(bytes, 3 + 2 * zone as usize) <= body {
-            owner = zone;
+        if destination >= self.zones() {
+            return Err(PlanFault::Destination(at + 1));
         }
-    }
-    owner
-}
-
-pub(crate) fn until(bytes: &[u8], zone: usize) -> usize
-    requires { (Framed bytes.now) × (zone < zone_count_of bytes.now) }
-    ensures { result ≡ end_of bytes.now zone }
-{
-    if zone + 1 < bytes[0] as usize {
-        word(bytes, 3 + 2 * (zone + 1))
-    } else {
-        word(bytes, 1)
-    }
-}
-
-pub(crate) fn least_from(bytes: &[u8], first: usize, end: usize, from: usize) -> Option<u8>
-    requires { (Framed bytes.now) × ((first ≤ end) × (end ≤ count_of bytes.now)) }
-    ensures { LeastAmong bytes.now first end from result }
-{
-    let mut least = None;
-    for body in first..end {
-        let number = bytes[body_place(bytes, body)];
-        if number as usize >= from && lower(number, least) {
-            least = Some(number);
+        if kind > 7 {
+            return Err(PlanFault::Kind(at + 2));
         }
+        Ok(())
     }
-    least
-}
 
-fn lower(number: u8, than: Option<u8>) -> bool
-    ensures { result ≡ is_lower number than }
-{
-    match than {
-        Some(least) => number < least,
-        None => true,
+    fn check_bodies(&self) -> Result<(), PlanFault>
+        ensures { FaultIs (first_below (body_fault self.now.bytes.now) (count_of self.now.bytes.now)) result }
+    {
+        (0..self.count()).try_for_each(|body| self.check_body(body))
     }
-}
 
-pub(crate) fn index_bodies(bytes: &[u8]) -> [u16; 256]
-    requires { accepted bytes.now ≡ true }
-    ensures { (n : ℕ) → n < 256 → slice_index result n ≡ slot_of (body_below_lem bytes.now n (count_of bytes.now)) }
-{
-    let mut index = [256; 256];
-    let count = word(bytes, 1);
-    for body in 0..count {
-        index[bytes[body_place(bytes, body)] as usize] = body as u16;
+    /// The least number not below `from` of the bodies from `first` up to `end`.
+    pub(crate) fn least_from(&self, first: usize, end: usize, from: usize) -> Option<u8>
+        requires { (first ≤ end) × (end ≤ count_of self.now.bytes.now) }
+        ensures { LeastAmong self.now.bytes.now first end from result }
+    {
+        let mut least = None;
+        for body in first..end {
+            let number = self.body(body).number;
+            if number as usize >= from && least.is_none_or(|least| number < least) {
+                least = Some(number);
+            }
+        }
+        least
     }
-    index
-}
 
-pub(crate) fn passage_in(file: &[u8], index: &[u16; 256], number: usize) -> Option<(u8, u8, u8)>
-    requires { (accepted file.now ≡ true) × (((n : ℕ) → n < 256 → slice_index index.now n ≡ slot_of (body_below_lem file.now n (count_of file.now)))) }
-    ensures { result ≡ triple (filed_passage file.now number) }
-{
-    if number > 255 {
-        return None;
+    /// The body of each passage number.
+    pub(crate) fn index(&self) -> [Option<u8>; 256]
+        requires { accepted self.now.bytes.now ≡ true }
+        ensures { (n : ℕ) → n < 256 → slice_index_or result n None ≡ body_below_lem self.now.bytes.now n (count_of self.now.bytes.now) }
+    {
+        let mut index = [None; 256];
+        for body in 0..self.count() {
+            index[self.body(body).number as usize] = Some(body as u8);
+        }
+        index
     }
-    let body = index[number] as usize;
-    if body > 255 {
-        return None;
-    }
-    let at = body_place(file, body);
-    Some((owner(file, body), file[at + 1], file[at + 2]))
-}
-
-pub(crate) fn leaving_in(file: &[u8], zone: u8, from: usize) -> Option<u8>
-    requires { accepted file.now ≡ true }
-    ensures { LeastLeaving (filed_passage file.now) zone from result }
-{
-    if zone >= file[0] {
-        return None;
-    }
-    let first = word(file, 3 + 2 * zone as usize);
-    let end = until(file, zone as usize);
-    least_from(file, first, end, from)
-}
-
-/// The first fault of the file, if it has one.
-pub(crate) fn check_file(bytes: &[u8]) -> Result<(), PlanFault>
-    ensures { MatchResult result (λ _. file_fault bytes.now ≡ None) (λ f. file_fault bytes.now ≡ Some f) }
-{
-    check_head(bytes)?;
-    check_entries(bytes)?;
-    check_bodies(bytes)?;
-    Ok(())
 }

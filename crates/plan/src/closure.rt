@@ -28,6 +28,7 @@ impl<P: Plan> Plan for Closure<P> {
     }
 
     fn leaving(&self, zone: u8, from: usize) -> Option<u8> {
+        // a loop: `find` asks for an end, and `successors` has none that is known
         let mut next = from;
         while let Some(found) = self.below.leaving(zone, next) {
             if !self.sheet.is_shut(found) {

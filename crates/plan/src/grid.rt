@@ -24,7 +24,7 @@ impl GridPlan {
     {
         let cells = rows as usize * columns as usize;
         if cells == 0 || cells > 64 {
-            return Err(Fault::Plan(PlanFault::Cells(0)));
+            return Err(PlanFault::Cells(0).into());
         }
         Ok(GridPlan { rows, columns })
     }
@@ -48,36 +48,17 @@ impl Plan for GridPlan {
         let column = zone % columns;
         let here = zone as u8;
         match number % 4 {
-            0 => if column + 1 < columns {
-                Some((here, here + 1, 0))
-            } else {
-                None
-            },
-            1 => if row + 1 < rows {
-                Some((here, here + self.columns, 1))
-            } else {
-                None
-            },
-            2 => if column > 0 {
-                Some((here, here - 1, 0))
-            } else {
-                None
-            },
-            _ => if row > 0 {
-                Some((here, here - self.columns, 1))
-            } else {
-                None
-            },
+            0 => (column + 1 < columns).then(|| (here, here + 1, 0)),
+            1 => (row + 1 < rows).then(|| (here, here + self.columns, 1)),
+            2 => (column > 0).then(|| (here, here - 1, 0)),
+            _ => (row > 0).then(|| (here, here - self.columns, 1)),
         }
     }
 
     fn leaving(&self, zone: u8, from: usize) -> Option<u8> {
         let first = 4 * zone as usize;
-        for number in first.max(from)..first + 4 {
-            if self.passage(number).is_some() {
-                return Some(number as u8);
-            }
-        }
-        None
+        (first.max(from)..first + 4)
+            .find(|number| self.passage(*number).is_some())
+            .map(|number| number as u8)
     }
 }

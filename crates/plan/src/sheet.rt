@@ -31,12 +31,10 @@ impl Sheet {
     pub fn new(bytes: &[u8]) -> Result<Sheet, Fault>
         ensures { MatchResult result (λ s. (sheet_fault bytes.now ≡ None) × (s.bytes ≡ bytes.now)) (λ f. Some f ≡ layered (sheet_fault bytes.now)) }
     {
-        if bytes.len() != 32 {
-            return Err(Fault::Plan(PlanFault::Sheet(bytes.len().min(32))));
-        }
-        let mut copy = [0; 32];
-        copy.copy_from_slice(bytes);
-        Ok(Sheet { bytes: copy })
+        let Ok(bytes) = <[u8; 32]>::try_from(bytes) else {
+            return Err(PlanFault::Sheet(bytes.len().min(32)).into());
+        };
+        Ok(Sheet { bytes })
     }
 
     /// The sheet on which nothing is shut.

@@ -1,13 +1,10 @@
 //! Plan files.
+use crate::verdicts::verdict_of;
 use plan::{FiledPlan, Plan};
 use std::test::Fail;
 
-// Number and place of the fault, or 0 and the zones of the plan.
 fn verdict(bytes: &[u8]) -> (u8, usize) {
-    match FiledPlan::open(bytes) {
-        Ok(plan) => (0, plan.zones() as usize),
-        Err(fault) => (fault.number(), fault.place()),
-    }
+    verdict_of(FiledPlan::open(bytes))
 }
 
 // A file of one zone and 256 passages, each from the zone to itself.
@@ -15,8 +12,8 @@ fn full() -> [u8; 773] {
     let mut bytes = [0; 773];
     bytes[0] = 1;
     bytes[2] = 1;
-    for number in 0..256usize {
-        bytes[5 + 3 * number] = number as u8;
+    for number in 0..=255u8 {
+        bytes[5 + 3 * number as usize] = number;
     }
     bytes
 }

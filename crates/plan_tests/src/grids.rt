@@ -1,13 +1,10 @@
 //! Grid floors.
+use crate::verdicts::verdict_of;
 use plan::{GridPlan, Plan};
 use std::test::Fail;
 
-// Number and place of the fault, or 0 and the zones of the grid.
 fn verdict(rows: u8, columns: u8) -> (u8, usize) {
-    match GridPlan::new(rows, columns) {
-        Ok(plan) => (0, plan.zones() as usize),
-        Err(fault) => (fault.number(), fault.place()),
-    }
+    verdict_of(GridPlan::new(rows, columns))
 }
 
 #[test]

@@ -7,3 +7,5 @@ mod closures;
 mod files;
 #[cfg(test)]
 mod grids;
+#[cfg(test)]
+mod verdicts;

@@ -18,7 +18,7 @@ pub enum Token<'a> {
     End,
 }
 
-// The symbol of a sign.
+// The symbol of a sign; only signs are asked for, so it is no conversion of bytes.
 fn sign_of(b: u8) -> Symbol
     requires { class_of b ≡ sign }
     ensures { result ≡ sign_of b }
@@ -42,11 +42,12 @@ fn run_end(text: &[u8], from: usize, class: Class) -> usize
     ensures all { AllOf class text.now from result }
     ensures stops { result < length text.now → class_of (slice_index text.now result) ≢ class }
 {
-    let mut n = from;
-    while n < text.len() && class_of(text[n]) == class {
-        n += 1;
+    for n in from..text.len() {
+        if class_of(text[n]) != class {
+            return n;
+        }
     }
-    n
+    text.len()
 }
 
 /// The text that is read, and the place up to which it has been.

@@ -18,7 +18,7 @@ pub fn next_symbol(reader: &mut Reader) -> Result<(Option<Symbol>, usize), Patte
     match token {
         Token::Name(letters) => {
             let word = look_up(letters, place)?;
-            Ok((Some(word.symbol()), place))
+            Ok((Some(word.into()), place))
         }
         Token::Lone(symbol) => Ok((Some(symbol), place)),
         Token::End => Ok((None, place)),

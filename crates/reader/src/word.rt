@@ -7,7 +7,7 @@ use fault::PatternFault;
 use grammar::Symbol;
 use model::Label;
 
-#[derive(Clone, Copy)]
+#[derive(Clone, Copy, PartialEq, Eq, Debug)]
 pub enum Word {
     Free,
     Badge,
@@ -22,6 +22,7 @@ pub enum Word {
 }
 
 #[tactic(auto, using(crate::proofs::Spelled::spelled3, crate::proofs::Spelled::spelled4, crate::proofs::Spelled::spelled5))]
+// no `TryFrom`: the fault has the place of the name
 pub fn look_up(name: &[u8], place: usize) -> Result<Word, PatternFault>
     ensures { MatchResult result (λ w. spelling w ≡ name.now) (λ f. (f ≡ Unknown place) × ((w : Word) → spelling w ≢ name.now)) }
 {
@@ -40,11 +41,11 @@ pub fn look_up(name: &[u8], place: usize) -> Result<Word, PatternFault>
     }
 }
 
-impl Word {
-    pub fn symbol(self) -> Symbol
-        ensures { result ≡ meaning self }
-    {
-        match self {
+impl From<Word> for Symbol {
+    ghost from_gives = { λ w r. r ≡ meaning w };
+
+    fn from(word: Word) -> Symbol {
+        match word {
             Word::Free => Symbol::Name(Label::Kind(0)),
             Word::Badge => Symbol::Name(Label::Kind(1)),
             Word::Pin => Symbol::Name(Label::Kind(2)),

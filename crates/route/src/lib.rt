@@ -25,6 +25,7 @@ pub use passing::{Rule, length_limit, routes_are_short};
 pub use restrictors::{Acyclic, Simple, Trail};
 
 /// A route of at most 256 steps, oldest first; entries from `len` on say nothing.
+// Plain arrays: an enquiry holds it without a heap, and copies it out before a rule is asked.
 #[derive(Clone, Copy)]
 pub struct Route {
     pub start: u8,

@@ -14,8 +14,8 @@ pub trait Rule {
 
     ghost meaning: { Self → RuleMeaning };
 
-    /// The greatest length again, as a question: each rule answers `Self::LONGEST`. A contract cannot name
-    /// the constant, so this method ties it to the meaning.
+    /// The greatest length again, as a question, since the rules of one type may differ in it: trail, acyclic
+    /// and simple answer `Self::LONGEST`.
     fn greatest(&self) -> usize
         ensures { result ≡ (meaning self.now).greatest };
 
@@ -31,14 +31,11 @@ pub trait Rule {
 pub fn length_limit<R: Rule>(rule: &R) -> usize
     ensures { result ≡ limit (R.Rule.meaning rule.now) }
 {
-    let stated = rule.greatest();
-    if stated < 256 { stated } else { 256 }
+    rule.greatest().min(256)
 }
 
 /// A theorem: no route of a plan that a lawful rule allows is longer than the rule states, or than 256, since
 /// no passage repeats.
-pub fn routes_are_short() -> u8
+pub fn routes_are_short()
     ensures { RoutesAreShort }
-{
-    0
-}
+{}

@@ -74,6 +74,7 @@ impl Route {
     }
 
     /// Adds a step and says `true`, or changes nothing where the route has 256 steps already.
+    // a flag, since neither case has anything to hand back
     pub fn push(&mut self, passage: u8, zone: u8, mark: u8, mask: u32) -> bool
         ensures told { result ≡ nat_lt self.old.len 256 }
         ensures track { self.old.len < 256 → track_of self.new ≡ extend (track_of self.old) (record { passage = passage; zone = zone; mark = mark; mask = mask }) }
@@ -98,26 +99,18 @@ impl Route {
     }
 
     /// Whether the route uses the passage.
+    #[tactic(auto, using(crate::proofs::Scans::used))]
     pub fn uses(&self, passage: u8) -> bool
         ensures { result ≡ mem passage (passages_of (route_of self.now)) }
     {
-        for step in 0..self.len {
-            if self.passages[step] == passage {
-                return true;
-            }
-        }
-        false
+        self.passages[..self.len].contains(&passage)
     }
 
     /// Whether a step of the route reaches the zone; the start alone does not count.
+    #[tactic(auto, using(crate::proofs::Scans::reached))]
     pub fn reaches(&self, zone: u8) -> bool
         ensures { result ≡ mem zone (reached_zones (route_of self.now).steps) }
     {
-        for place in 0..self.len {
-            if self.zones[place] == zone {
-                return true;
-            }
-        }
-        false
+        self.zones[..self.len].contains(&zone)
     }
 }

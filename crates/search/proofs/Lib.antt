@@ -3,3 +3,4 @@ pub mod Searches
 pub mod Follow
 pub mod Turns
 pub mod Deliver
+pub mod Trails

@@ -6,6 +6,8 @@ use Rattle.automaton.specs.Step.{stepped}
 use Rattle.automaton.specs.declared.Automaton.{Automaton}
 use Rattle.route.specs.Tracks.{Track, bare, last_zone, last_mask}
 use Rattle.search.specs.Spaces.{Code, Space}
+use Rattle.search.specs.declared.cursor.Cursor.{Cursor}
+use Rattle.search.specs.declared.search.Search.{Search}
 
 -- The states before the first passage.
 abbrev pub first_mask : ℕ
@@ -30,3 +32,7 @@ space_of m ru a target most = record {
   reach = λ s c. reach_by ru a most s c (m.passage c.passage);
   final = λ s. (last_zone s.start s.steps == target) && not (bit_and (last_mask first_mask s.steps) a.accept == 0);
 }
+
+-- The space of a search and a cursor, by what plans and rules mean.
+abbrev pub space_at : {P R : Type 0} → (P → PlanMeaning) → (R → RuleMeaning) → Search P R → Cursor → Space
+space_at plan_of rule_of s d = space_of (plan_of s.plan) (rule_of s.rule) s.automaton d.target d.most

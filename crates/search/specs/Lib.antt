@@ -1,3 +1,4 @@
 pub mod Spaces
 pub mod Listings
 pub mod Hunts
+pub mod Trails

@@ -1,17 +1,31 @@
-ghost use Rattle.std.specs.Prelude.{◌≡◌, ◌≤◌, false};
+ghost use Rattle.std.specs.Prelude.{◌≤◌};
 
+use crate::progress::Progress;
 use model::Choice;
-use route::Route;
 
-/// Where an enquiry stands: the question, the greatest length, and the route that was delivered last.
+/// The question of a listing, the greatest length of its answers, and where it stands.
 #[derive(Clone, Copy)]
 pub struct Cursor {
-    pub posed: bool,
     pub choice: Choice,
     pub target: u8,
     pub most: usize,
-    pub begun: bool,
-    pub route: Route,
+    pub progress: Progress,
     ghost short: { most ≤ 256 },
-    ghost fresh: { (begun ≡ false → route.len ≡ 0) },
+}
+
+impl Cursor {
+    ghost use Rattle.std.specs.Prelude.{◌≡◌};
+    ghost use Rattle.search.specs.Trails.{placed};
+
+    /// The same question, standing elsewhere.
+    pub fn with_progress(&self, progress: Progress) -> Cursor
+        ensures { result ≡ placed self.now progress }
+    {
+        Cursor {
+            choice: self.choice,
+            target: self.target,
+            most: self.most,
+            progress,
+        }
+    }
 }

@@ -1,59 +1,64 @@
 ghost use Rattle.std.specs.Prelude.{◌≡◌, ℕ, ◌<◌, ◌≤◌, true, false};
 ghost use Rattle.route.specs.Reading.{track_of};
-ghost use Rattle.search.specs.Hunts.{space_of};
-ghost use Rattle.search.specs.Listings.{Standing, Followed, Delivered};
+ghost use Rattle.search.specs.Hunts.{space_at};
+ghost use Rattle.search.specs.Listings.{Standing, Followed};
 ghost use Rattle.search.specs.Spaces.{Sought, Only, Marks, Onward};
+ghost use Rattle.search.specs.Trails.{trail, Comes};
 
 use crate::cursor::Cursor;
+use crate::progress::Progress;
 use automaton::Automaton;
 use plan::Plan;
 use route::{Route, Rule};
 
+/// What is searched: a plan, under a rule, for the routes that an automaton reads.
 #[derive(Drop)]
 pub struct Search<P: Plan, R: Rule> {
     pub plan: P,
     pub rule: R,
     pub automaton: Automaton,
-    pub cursor: Cursor,
 }
 
 impl<P: Plan, R: Rule> Search<P, R> {
-    pub fn reach(&self, route: &Route, passage: u8, mark: u8) -> Option<(u8, u32)>
-        ensures { result ≡ (space_of (P.Plan.meaning self.now.plan) (R.Rule.meaning self.now.rule) self.now.automaton self.now.cursor.target self.now.cursor.most).reach (track_of route.now) (record { passage = passage; mark = mark }) }
+    /// The zone and the states that one more step reaches, if it may be added.
+    pub fn reach(&self, cursor: &Cursor, route: &Route, passage: u8, mark: u8) -> Option<(u8, u32)>
+        ensures { result ≡ (space_at P.Plan.meaning R.Rule.meaning self.now cursor.now).reach (track_of route.now) (record { passage = passage; mark = mark }) }
     {
-        match self.plan.passage(passage as usize) {
-            None => None,
-            Some((origin, zone, kind)) => {
-                let mask = self.automaton.step(route.mask(1 << 31), kind, mark);
-                if (origin == route.here())
-                    & (mark < 9)
-                    & (route.len < self.cursor.most)
-                    & (mask != 0)
-                    & self.rule.may_add(route, passage, zone)
-                {
-                    Some((zone, mask))
-                } else {
-                    None
-                }
-            }
+        let (origin, zone, kind) = self.plan.passage(passage as usize)?;
+        let mask = self
+            .automaton
+            .step(route.mask(self.automaton.start()), kind, mark);
+        if (origin == route.here())
+            & (mark < 9)
+            & (route.len < cursor.most)
+            & (mask != 0)
+            & self.rule.may_add(route, passage, zone)
+        {
+            Some((zone, mask))
+        } else {
+            None
         }
     }
 
-    pub fn is_answer(&self, route: &Route) -> bool
-        ensures { result ≡ (space_of (P.Plan.meaning self.now.plan) (R.Rule.meaning self.now.rule) self.now.automaton self.now.cursor.target self.now.cursor.most).final (track_of route.now) }
+    /// Whether the route is an answer.
+    pub fn is_answer(&self, cursor: &Cursor, route: &Route) -> bool
+        ensures { result ≡ (space_at P.Plan.meaning R.Rule.meaning self.now cursor.now).final (track_of route.now) }
     {
-        route.here() == self.cursor.target && (route.mask(1 << 31) & self.automaton.accept) != 0
+        route.here() == cursor.target
+            && (route.mask(self.automaton.start()) & self.automaton.accept) != 0
     }
 
+    // The three below change the route in place and say whether it is an answer now: no value goes with the flag.
+    // Passage and mark are no struct, since `seek` may start past the last passage, where there is no step.
     #[cycle(seek_step_into_try_marks)]
-    fn step_into(&self, route: &mut Route, passage: u8, mark: u8) -> bool
-        ensures { Sought (space_of (P.Plan.meaning self.now.plan) (R.Rule.meaning self.now.rule) self.now.automaton self.now.cursor.target self.now.cursor.most) (track_of route.old) (Only passage mark) result (track_of route.new) }
+    fn step_into(&self, cursor: &Cursor, route: &mut Route, passage: u8, mark: u8) -> bool
+        ensures { Sought (space_at P.Plan.meaning R.Rule.meaning self.now cursor.now) (track_of route.old) (Only passage mark) result (track_of route.new) }
     {
-        let Some((zone, mask)) = self.reach(route, passage, mark) else {
+        let Some((zone, mask)) = self.reach(cursor, route, passage, mark) else {
             return false;
         };
         route.push(passage, zone, mark, mask);
-        if self.is_answer(route) || self.seek(route, 0, 0) {
+        if self.is_answer(cursor, route) || self.seek(cursor, route, 0, 0) {
             return true;
         }
         route.pop();
@@ -61,28 +66,27 @@ impl<P: Plan, R: Rule> Search<P, R> {
     }
 
     #[cycle(seek_step_into_try_marks)]
-    fn try_marks(&self, route: &mut Route, passage: u8, from: u8) -> bool
-        ensures { Sought (space_of (P.Plan.meaning self.now.plan) (R.Rule.meaning self.now.rule) self.now.automaton self.now.cursor.target self.now.cursor.most) (track_of route.old) (Marks passage from) result (track_of route.new) }
+    fn try_marks(&self, cursor: &Cursor, route: &mut Route, passage: u8, from: u8) -> bool
+        ensures { Sought (space_at P.Plan.meaning R.Rule.meaning self.now cursor.now) (track_of route.old) (Marks passage from) result (track_of route.new) }
     {
-        let mut mark = from;
-        while mark < 9 {
-            if self.step_into(route, passage, mark) {
+        for mark in from..9 {
+            if self.step_into(cursor, route, passage, mark) {
                 return true;
             }
-            mark += 1;
         }
         false
     }
 
     #[cycle(seek_step_into_try_marks)]
-    fn seek(&self, route: &mut Route, passage: usize, mark: u8) -> bool
-        ensures { Sought (space_of (P.Plan.meaning self.now.plan) (R.Rule.meaning self.now.rule) self.now.automaton self.now.cursor.target self.now.cursor.most) (track_of route.old) (Onward passage mark) result (track_of route.new) }
+    fn seek(&self, cursor: &Cursor, route: &mut Route, passage: usize, mark: u8) -> bool
+        ensures { Sought (space_at P.Plan.meaning R.Rule.meaning self.now cursor.now) (track_of route.old) (Onward passage mark) result (track_of route.new) }
     {
         let zone = route.here();
         let mut next = passage;
+        // an iterator over the passages that leave would hold the same place, and say the same of it
         while let Some(found) = self.plan.leaving(zone, next) {
             let from = if found as usize == passage { mark } else { 0 };
-            if self.try_marks(route, found, from) {
+            if self.try_marks(cursor, route, found, from) {
                 return true;
             }
             next = found as usize + 1;
@@ -90,13 +94,14 @@ impl<P: Plan, R: Rule> Search<P, R> {
         false
     }
 
-    fn follow(&self, route: &mut Route) -> bool
-        ensures { Standing (space_of (P.Plan.meaning self.now.plan) (R.Rule.meaning self.now.rule) self.now.automaton self.now.cursor.target self.now.cursor.most) (track_of route.old) → Followed (space_of (P.Plan.meaning self.now.plan) (R.Rule.meaning self.now.rule) self.now.automaton self.now.cursor.target self.now.cursor.most) (track_of route.old) result (track_of route.new) }
+    // From a route to the answer that follows it.
+    fn follow(&self, cursor: &Cursor, route: &mut Route) -> bool
+        ensures { Standing (space_at P.Plan.meaning R.Rule.meaning self.now cursor.now) (track_of route.old) → Followed (space_at P.Plan.meaning R.Rule.meaning self.now cursor.now) (track_of route.old) result (track_of route.new) }
     {
         let mut passage = 0;
         let mut mark = 0;
         loop {
-            if self.seek(route, passage, mark) {
+            if self.seek(cursor, route, passage, mark) {
                 return true;
             }
             if route.len == 0 {
@@ -108,23 +113,15 @@ impl<P: Plan, R: Rule> Search<P, R> {
         }
     }
 
-    pub fn advance(&mut self) -> bool
-        ensures told { Standing (space_of (P.Plan.meaning self.old.plan) (R.Rule.meaning self.old.rule) self.old.automaton self.old.cursor.target self.old.cursor.most) (track_of self.old.cursor.route) → Delivered (space_of (P.Plan.meaning self.old.plan) (R.Rule.meaning self.old.rule) self.old.automaton self.old.cursor.target self.old.cursor.most) self.old.cursor.begun (track_of self.old.cursor.route) result (track_of self.new.cursor.route) }
-        ensures kept { (self.new.plan ≡ self.old.plan) × ((self.new.rule ≡ self.old.rule) × ((self.new.automaton ≡ self.old.automaton) × ((self.new.cursor.target ≡ self.old.cursor.target) × (self.new.cursor.most ≡ self.old.cursor.most)))) }
-        ensures asks { (self.new.cursor.posed ≡ self.old.cursor.posed) × (self.new.cursor.choice ≡ self.old.cursor.choice) }
-        ensures none { result ≡ false → self.new.cursor ≡ self.old.cursor }
-        ensures some { result ≡ true → self.new.cursor.begun ≡ true }
+    /// The answer that comes next, if one does.
+    pub fn next_answer(&self, cursor: &Cursor) -> Option<Route>
+        ensures { Standing (space_at P.Plan.meaning R.Rule.meaning self.now cursor.now) (trail cursor.now.progress) → Comes (space_at P.Plan.meaning R.Rule.meaning self.now cursor.now) cursor.now.progress result }
     {
-        let mut route = self.cursor.route;
-        if !self.cursor.begun && self.is_answer(&route) {
-            self.cursor.begun = true;
-            return true;
-        }
-        if self.follow(&mut route) {
-            self.cursor.begun = true;
-            self.cursor.route = route;
-            return true;
-        }
-        false
+        let mut route = cursor.progress.route();
+        let found = match cursor.progress {
+            Progress::AtFront(_) if self.is_answer(cursor, &route) => true,
+            _ => self.follow(cursor, &mut route),
+        };
+        if found { Some(route) } else { None }
     }
 }

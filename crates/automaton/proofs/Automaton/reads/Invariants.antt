@@ -3,5 +3,5 @@ use Rattle.std.proofs.Common.{take}
 use Rattle.automaton.specs.Tables.{Recognises, Stands}
 use Rattle.automaton.proofs.Automaton.reads.Given as goal
 
-abbrev pub invariant-loop-x : goal.invariant-loop-x
-invariant-loop-x l = (p : Tree) → Recognises l.self p → Stands l.self p (take l.x-index l.word) l.mask
+abbrev pub invariant-loop-kind : goal.invariant-loop-kind
+invariant-loop-kind l = (p : Tree) → Recognises l.self p → Stands l.self p (take l.kind-index l.word) l.mask

@@ -17,7 +17,7 @@ pub returns-in-Again : goal.returns-in-Again
 returns-in-Again g c = record { told = performs _ _ _ _ _ c.args.call _ (again _) (sym (ap call_of c.in-Again.is)) refl c.again.ensures.relation; same = c.again.ensures.same }
 
 pub returns-in-Check : goal.returns-in-Check
-returns-in-Check g c = record { told = performs _ _ _ _ _ c.args.call _ (check _ _) (ap check_call c.as_slice.ensures.value ∙ sym (ap call_of c.in-Check.is)) refl c.check.ensures; same = (refl, (refl, refl)) }
+returns-in-Check g c = record { told = performs _ _ _ _ _ c.args.call _ (check _ _) (ap check_call c.as_slice.ensures.value ∙ sym (ap call_of c.in-Check.is)) refl c.check.ensures; same = refl }
 
 pub returns-in-Resume : goal.returns-in-Resume
 returns-in-Resume g c = record { told = performs _ _ _ _ _ c.args.call _ (resume _ _) (ap resume_call c.as_slice-in-Resume.ensures.value ∙ sym (ap call_of c.in-Resume.is)) refl c.resume.ensures.relation; same = c.resume.ensures.same }

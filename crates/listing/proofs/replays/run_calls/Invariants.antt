@@ -9,8 +9,6 @@ use Rattle.listing.proofs.replays.run_calls.Given as goal
 
 abbrev pub invariant-loop-call : goal.invariant-loop-call
 invariant-loop-call g l =
-    (l.enquiry.search.plan ≡ l.initial.enquiry.search.plan)
-    × (l.enquiry.search.rule ≡ l.initial.enquiry.search.rule)
-    × (l.enquiry.search.automaton ≡ l.initial.enquiry.search.automaton)
-    × ((t : Tree) → Recognises l.initial.enquiry.search.automaton t → Running (asked (g.P.Plan.meaning l.initial.enquiry.search.plan) (g.R.Rule.meaning l.initial.enquiry.search.rule) t) l.initial.enquiry.search.automaton (map call_of l.yielded) (map reply_of (vec_items l.replies)) l.enquiry.search.cursor)
+    (l.enquiry.search ≡ l.initial.enquiry.search)
+    × ((t : Tree) → Recognises l.initial.enquiry.search.automaton t → Running (asked (g.P.Plan.meaning l.initial.enquiry.search.plan) (g.R.Rule.meaning l.initial.enquiry.search.rule) t) l.initial.enquiry.search.automaton (map call_of l.yielded) (map reply_of (vec_items l.replies)) l.enquiry.cursor)
     × (l.yielded ++ into_iter_items l.call-iterator ≡ into_iter_items l.initial.call-iterator)

@@ -1,18 +1,19 @@
-use Rattle.std.proofs.Common.{refl}
 use Rattle.enquiry.proofs.Judged.{formed_two, resume_refused, resume_faulty, resume_none, resume_some}
 use Rattle.enquiry.proofs.calls.Enquiry.resume.Goals as goal
 
-pub returns-then-not-self : goal.returns-then-not-self
-returns-then-not-self g c = record { relation = resume_refused _ _ (g.met.R.Rule.keeps c.args.self.now.search.rule) _ _ _ c.if-not-self.true; same = (refl, (refl, refl)); refused = refl }
+pub returns-in_default-clause-relation : goal.returns-in_default-clause-relation
+returns-in_default-clause-relation g c = rw c.in_default.is (resume_refused (g.P.Plan.meaning c.args.self.now.search.plan) (g.R.Rule.meaning c.args.self.now.search.rule) c.args.self.now.search.automaton _)
 
-pub returns-in-Some : goal.returns-in-Some
-returns-in-Some g c = record { relation = resume_faulty _ _ (g.met.R.Rule.keeps c.args.self.now.search.rule) _ _ _ _ c.if-not-self.false c.in-Some.ensures; same = (refl, (refl, refl)); refused = refl }
+pub returns-in-Some-malformed-clause-relation : goal.returns-in-Some-malformed-clause-relation
+returns-in-Some-malformed-clause-relation g c = rw c.in-Some.is (resume_faulty _ _ (g.met.R.Rule.keeps c.args.self.now.search.rule) _ c.in-Some.cursor _ _ c.in-Some-malformed.ensures)
 
 pub walk-requires : goal.walk-requires
-walk-requires g c = formed_two _ c.in_default.ensures
+walk-requires g c = let f = formed_two _ c.in_default-malformed.ensures in record { long = f.0; few = f.1 }
 
-pub returns-in_default-walk : goal.returns-in_default-walk
-returns-in_default-walk g c = record { relation = resume_none _ _ (g.met.R.Rule.keeps c.args.self.now.search.rule) _ _ _ c.if-not-self.false c.in_default.ensures c.in_default-walk.ensures; same = (refl, (refl, refl)); refused = refl }
+pub returns-in_default-walk-clause-relation : goal.returns-in_default-walk-clause-relation
+returns-in_default-walk-clause-relation g c = rw c.in-Some.is (resume_none _ _ (g.met.R.Rule.keeps c.args.self.now.search.rule) _ c.in-Some.cursor _ c.in_default-malformed.ensures c.in_default-walk.ensures)
 
-pub returns : goal.returns
-returns g c = record { relation = resume_some _ _ (g.met.R.Rule.keeps c.args.self.now.search.rule) _ _ _ _ c.if-not-self.false c.in_default.ensures c.in-Some-walk.ensures c.if-not-self.false refl refl refl refl; same = (refl, (refl, refl)); refused = tt }
+pub returns-clause-relation : goal.returns-clause-relation
+returns-clause-relation g c =
+    rw (c.in-Some.is, c.with_progress.ensures)
+    (resume_some _ _ (g.met.R.Rule.keeps c.args.self.now.search.rule) _ c.in-Some.cursor _ c.in-Some-walk.route c.in_default-malformed.ensures c.in-Some-walk.ensures)

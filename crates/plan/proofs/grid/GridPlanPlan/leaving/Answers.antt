@@ -1,16 +1,37 @@
-use Rattle.std.proofs.Common.{◌≡◌, ℕ, false, is_some, Some, None, Option, ap, ◌∙◌, subst, ⊎_elim, eq-or-lt_of_le, arith}
-use borrow.Author.Tests.{clash}
-use Rattle.model.specs.Plans.{Passage, LeavesBy, Leaves, triple}
+use Rattle.std.proofs.Common.{◌≡◌, ℕ, ◌+◌, ◌*◌, ◌/◌, ◌<◌, ◌≤◌, max, true, false, is_some, Some, None, Option, rules, arith, subst, sym}
+use Rattle.std.proofs.lemmas.Iterator.{first_from_Range}
+use Rattle.std.specs.Option.{MatchOption}
+use Rattle.model.specs.Plans.{Passage, Leaves, LeavesBy, LeastLeaving, triple}
 use Rattle.plan.specs.Grid.{grid_passage}
 use Rattle.plan.proofs.grid.GridPlanPlan.leaving.Goals as goal
 
-none_leaves : (o : Option Passage) (r : Option (ℕ × ℕ × ℕ)) (z : ℕ) → r ≡ triple o → false ≡ is_some r → LeavesBy o z → ⊥
-none_leaves (Some p) r z e f h = clash (f ∙ ap is_some e)
-none_leaves None r z e f h = h
+none_leaves : (o : Option Passage) (z : ℕ) → is_some (triple o) ≡ false → LeavesBy o z → ⊥
+none_leaves (Some p) z e h = cc
+none_leaves None z e h = h
 
-pub loop-number-preserved : goal.loop-number-preserved
-loop-number-preserved c k l m h = ⊎_elim
-    (λ q. none_leaves (grid_passage c.args.self.now.rows c.args.self.now.columns c.loop-number.number) c.passage.result c.args.zone c.passage.ensures c.if-is_some.ensures
-    (subst (λ (j : ℕ). Leaves (grid_passage c.args.self.now.rows c.args.self.now.columns) c.args.zone j) q h))
-    (λ q. c.loop-number.invariant k l q h)
-    (eq-or-lt_of_le {n = k} {m = c.loop-number.number} (omega arith))
+-- the four passages of a cell are the ones that leave it
+left : (rows columns z k : ℕ) → Leaves (grid_passage rows columns) z k → k / 4 ≡ z
+left rows columns z k h = search rules
+
+leaves : (rows columns z k : ℕ) → is_some (triple (grid_passage rows columns k)) ≡ true → k / 4 ≡ z → Leaves (grid_passage rows columns) z k
+leaves rows columns z k e q = search rules
+
+least : (rows columns z from low : ℕ) (o : Option ℕ) → low ≡ max (4 * z) from
+    → MatchOption o ((k : ℕ) → low ≤ k → k < 4 * z + 4 → is_some (triple (grid_passage rows columns k)) ≡ false)
+    (λ i. (low ≤ i) × (i < 4 * z + 4) × (is_some (triple (grid_passage rows columns i)) ≡ true) × ((k : ℕ) → low ≤ k → k < i → is_some (triple (grid_passage rows columns k)) ≡ false))
+    → LeastLeaving (grid_passage rows columns) z from o
+least rows columns z from low (Some i) m h = (
+  omega arith,
+  leaves rows columns z i h.2 (omega arith),
+  λ k l n p. let q = left rows columns z k p in none_leaves (grid_passage rows columns k) z (h.3 k (omega arith) n) p,
+)
+least rows columns z from low None m h = λ k l p. let q = left rows columns z k p in none_leaves (grid_passage rows columns k) z (h k (omega arith) (omega arith)) p
+
+pub returns : goal.returns
+returns c =
+    let rows = c.args.self.now.rows in
+    let columns = c.args.self.now.columns in
+    let e : c.map.result ≡ c.find.result = search rules in
+    subst (LeastLeaving (grid_passage rows columns) c.args.zone c.args.from) (sym e)
+    (least rows columns c.args.zone c.args.from c.max.result c.find.result c.max.ensures
+    (first_from_Range _ _ _ _ (λ k. is_some (triple (grid_passage rows columns k)) ≡ true) (λ k. is_some (triple (grid_passage rows columns k)) ≡ false) c.find.ensures.ran (λ x q k. search rules) (λ x q k. search rules)))

@@ -38,7 +38,7 @@ step_into-seek-requires g t c κs within =
 
 pub step_into-returns-then-is_answer : goal.step_into-returns-then-is_answer
 step_into-returns-then-is_answer g t c =
-    let T = space_of (g.P.Plan.meaning c.args.self.now.plan) (g.R.Rule.meaning c.args.self.now.rule) c.args.self.now.automaton c.args.self.now.cursor.target c.args.self.now.cursor.most in
+    let T = space_of (g.P.Plan.meaning c.args.self.now.plan) (g.R.Rule.meaning c.args.self.now.rule) c.args.self.now.automaton c.args.cursor.now.target c.args.cursor.now.most in
     let o = reach_open _ _ _ _ _ _ _ _ (sym c.reach.ensures ∙ c.in-Some.is) in
     let room : c.args.route.now.len < 256 = omega (arith, o.room, length_taken (taken_at c.args.route.now) c.args.route.now.len) in
     let e = c.push.ensures.track room in
@@ -50,7 +50,7 @@ step_into-returns-then-is_answer g t c =
 
 pub step_into-returns : goal.step_into-returns
 step_into-returns g t c =
-    let T = space_of (g.P.Plan.meaning c.args.self.now.plan) (g.R.Rule.meaning c.args.self.now.rule) c.args.self.now.automaton c.args.self.now.cursor.target c.args.self.now.cursor.most in
+    let T = space_of (g.P.Plan.meaning c.args.self.now.plan) (g.R.Rule.meaning c.args.self.now.rule) c.args.self.now.automaton c.args.cursor.now.target c.args.cursor.now.most in
     let o = reach_open _ _ _ _ _ _ _ _ (sym c.reach.ensures ∙ c.in-Some.is) in
     let room : c.args.route.now.len < 256 = omega (arith, o.room, length_taken (taken_at c.args.route.now) c.args.route.now.len) in
     let e = c.push.ensures.track room in

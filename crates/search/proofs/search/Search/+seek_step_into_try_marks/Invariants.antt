@@ -18,7 +18,7 @@ invariant-seek-loop-found g l =
     (l.route.len ≡ l.initial.route.len)
     × (track_of l.route ≡ track_of l.initial.route)
     × (l.passage ≤ l.next)
-    × Nothing (space_of (g.P.Plan.meaning l.self.plan) (g.R.Rule.meaning l.self.rule) l.self.automaton l.self.cursor.target l.self.cursor.most) (track_of l.initial.route) (Under l.passage l.mark l.next)
+    × Nothing (space_of (g.P.Plan.meaning l.self.plan) (g.R.Rule.meaning l.self.rule) l.self.automaton l.cursor.target l.cursor.most) (track_of l.initial.route) (Under l.passage l.mark l.next)
 
 abbrev pub decreases-seek-loop-found : goal.decreases-seek-loop-found
 decreases-seek-loop-found g l = 256 - l.next
@@ -28,7 +28,7 @@ invariant-try_marks-loop-mark g l =
     (l.route.len ≡ l.initial.route.len)
     × (track_of l.route ≡ track_of l.initial.route)
     × (l.from ≤ l.mark)
-    × Nothing (space_of (g.P.Plan.meaning l.self.plan) (g.R.Rule.meaning l.self.rule) l.self.automaton l.self.cursor.target l.self.cursor.most) (track_of l.initial.route) (Between l.passage l.from l.mark)
+    × Nothing (space_of (g.P.Plan.meaning l.self.plan) (g.R.Rule.meaning l.self.rule) l.self.automaton l.cursor.target l.cursor.most) (track_of l.initial.route) (Between l.passage l.from l.mark)
 
 -- proposed from the loop's first test
 abbrev pub decreases-try_marks-loop-mark : goal.decreases-try_marks-loop-mark

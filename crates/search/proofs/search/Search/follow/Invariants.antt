@@ -8,7 +8,7 @@ use Rattle.search.proofs.search.Search.follow.Given as goal
 abbrev pub invariant-loop-passage : goal.invariant-loop-passage
 invariant-loop-passage g l =
     (l.route.start ≡ l.initial.route.start)
-    × (Standing (space_of (g.P.Plan.meaning l.self.plan) (g.R.Rule.meaning l.self.rule) l.self.automaton l.self.cursor.target l.self.cursor.most) (track_of l.initial.route) → Rest (space_of (g.P.Plan.meaning l.self.plan) (g.R.Rule.meaning l.self.rule) l.self.automaton l.self.cursor.target l.self.cursor.most) l.initial.route.start (codes_of (track_of l.initial.route)) (track_of l.route).steps l.passage l.mark)
+    × (Standing (space_of (g.P.Plan.meaning l.self.plan) (g.R.Rule.meaning l.self.rule) l.self.automaton l.cursor.target l.cursor.most) (track_of l.initial.route) → Rest (space_of (g.P.Plan.meaning l.self.plan) (g.R.Rule.meaning l.self.rule) l.self.automaton l.cursor.target l.cursor.most) l.initial.route.start (codes_of (track_of l.initial.route)) (track_of l.route).steps l.passage l.mark)
 
 abbrev pub decreases-loop-passage : goal.decreases-loop-passage
 decreases-loop-passage g l = l.route.len
