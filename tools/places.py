@@ -26,7 +26,7 @@ def lines(pattern, keep=lambda f, l: True):
 def enums():
     """Enums of two or three cases, some empty and some with a value."""
     for f in FILES:
-        for m in re.finditer(r"enum (\w+)[^{]*\{(.*?)\n\}", TEXT[f], re.S):
+        for m in re.finditer(r"^(?:pub )?enum (\w+)[^{]*\{(.*?)\n\}", TEXT[f], re.S | re.M):
             cases = re.findall(r"^    (\w+)(\([^\n]*\)|\{|)[, ]*$", re.sub(r"//[^\n]*", "", m[2]), re.M)
             full = [c for c in cases if c[1]]
             if 1 < len(cases) < 4 and full and len(full) < len(cases):

@@ -1,97 +1,119 @@
 //! Listings, and single records.
-use crate::lines::{answer_line, record_line};
-use crate::options::{Ends, Form};
+use crate::lines::{Answer, Record};
+use crate::options::{Form, Options};
 use crate::problem::Problem;
-use enquiry::Enquiry;
-use pattern::Pattern;
+use crate::question::Question;
+use crate::restrictor::Visitor;
+use crate::script::read_words;
 use plan::Plan;
 use route::Rule;
+use std::fmt;
 
-/// What a listing came to.
+/// What a listing came to: how many answers, and whether they are all.
 #[derive(Clone, Copy)]
-pub struct Tally {
-    pub answers: u64,
-    pub ended: bool,
+pub enum Tally {
+    Ended(u64),
+    Cut(u64),
 }
 
-/// Writes the answers to the question, at most so many.
-pub(crate) fn list<P: Plan + Drop, R: Rule + Drop>(
-    rt: &HostRuntime,
-    plan: P,
-    rule: R,
-    text: &str,
-    ends: Ends,
-    form: Form,
-    top: u64,
-) -> Result<Tally, Problem> {
-    let pattern = Pattern::read(text.as_bytes())?;
-    let mut enquiry = Enquiry::new(plan, pattern, rule);
-    enquiry.pose(ends.start, ends.target, ends.choice)?;
-    for answers in 0..top {
-        if !show_next(rt, &mut enquiry, form)? {
-            return Ok(Tally {
-                answers,
-                ended: true,
-            });
+impl Tally {
+    pub(crate) fn answers(self) -> u64 {
+        match self {
+            Tally::Ended(answers) | Tally::Cut(answers) => answers,
         }
     }
-    Ok(Tally {
-        answers: top,
-        ended: false,
-    })
 }
 
-// Writes the following answer; whether there was one.
-fn show_next<P: Plan, R: Rule>(
-    rt: &HostRuntime,
-    enquiry: &mut Enquiry<P, R>,
-    form: Form,
-) -> Result<bool, Problem> {
-    let mut buffer = [0u16; 770];
-    let Some(count) = enquiry.next(&mut buffer)? else {
-        return Ok(false);
-    };
-    show_answer(rt, enquiry.plan(), &buffer[..count.min(770)], form)?;
-    Ok(true)
+impl fmt::Display for Tally {
+    fn fmt<W: fmt::Write>(&self, f: &mut fmt::Formatter<W>) -> fmt::Result {
+        let answers = self.answers();
+        let noun = if answers == 1 { "answer" } else { "answers" };
+        match self {
+            Tally::Ended(_) => write!(f, "{answers} {noun}, and the list ended"),
+            Tally::Cut(_) => write!(f, "{answers} {noun}, and the list was cut at {answers}"),
+        }
+    }
 }
 
-fn show_answer<P: Plan>(
+/// Writes the answers to a question, at most so many.
+#[derive(Drop)]
+pub struct Listing<'a> {
+    pub rt: &'a HostRuntime,
+    pub question: &'a Question,
+    pub form: Form,
+    pub top: u64,
+}
+
+impl Visitor for Listing<'_> {
+    type Out = Tally;
+
+    fn visit<P: Plan + Drop, R: Rule + Drop>(self, plan: P, rule: R) -> Result<Tally, Problem> {
+        let mut enquiry = self.question.pose(plan, rule)?;
+        let mut buffer = [0u16; 770];
+        for answers in 0..self.top {
+            let Some(count) = enquiry.next(&mut buffer)? else {
+                return Ok(Tally::Ended(answers));
+            };
+            let record = &buffer[..count.min(770)];
+            write_answer(self.rt, enquiry.plan(), record, self.form)?;
+        }
+        Ok(Tally::Cut(self.top))
+    }
+}
+
+impl Listing<'_> {
+    pub(crate) fn write(self) -> Result<Tally, Problem> {
+        self.question.subject.lend(self)
+    }
+}
+
+fn write_answer<P: Plan>(
     rt: &HostRuntime,
     plan: &P,
     record: &[u16],
     form: Form,
 ) -> Result<(), Problem> {
     match form {
-        Form::Lines => rt.println(answer_line(rt.alloc(), plan, record)?)?,
-        Form::Records => rt.println(record_line(rt.alloc(), record)?)?,
+        Form::Lines => rt.println(Answer { plan, record })?,
+        Form::Records => rt.println(Record(record))?,
         Form::Count => {}
     }
     Ok(())
 }
 
-/// Says on standard error what a listing came to.
-pub(crate) fn report(rt: &HostRuntime, tally: Tally) -> Result<(), Problem> {
-    let answers = tally.answers;
-    let noun = if answers == 1 { "answer" } else { "answers" };
-    if tally.ended {
-        eprintln!(rt; "{answers} {noun}, and the list ended")?;
-    } else {
-        eprintln!(rt; "{answers} {noun}, and the list was cut at {answers}")?;
+/// Lists the answers to the question of the options, and says on standard error what it came to.
+pub(crate) fn list(rt: &HostRuntime, options: Options) -> Result<(), Problem> {
+    let mut options = options;
+    let question = options.question(rt)?;
+    let (form, top) = (options.form, options.top);
+    let question = &question;
+    let tally = Listing {
+        rt,
+        question,
+        form,
+        top,
     }
+    .write()?;
+    if let Form::Count = form {
+        rt.println(tally.answers())?;
+    }
+    rt.eprintln(tally)?;
     Ok(())
 }
 
-/// Whether the record is one of an answer to the question.
-pub(crate) fn check<P: Plan + Drop, R: Rule + Drop>(
-    plan: P,
-    rule: R,
-    text: &str,
-    ends: Ends,
-    record: &[u16],
-) -> Result<bool, Problem> {
-    let pattern = Pattern::read(text.as_bytes())?;
-    let mut enquiry = Enquiry::new(plan, pattern, rule);
-    enquiry.pose(ends.start, ends.target, ends.choice)?;
-    let yes = enquiry.check(record)?;
-    Ok(yes)
+const RECORD: &str = "a record is numbers from 0 to 65535 with spaces between";
+
+/// Says whether the record behind the pattern is one of an answer.
+pub(crate) fn check(rt: &HostRuntime, options: Options) -> Result<(), Problem> {
+    let mut options = options;
+    let rule = options.rule()?;
+    let ends = options.ends()?;
+    let record = options.last_word()?;
+    let record = read_words(rt.alloc(), record.as_str()).map_err(|misread| misread.or(
+        Problem::Usage(RECORD),
+    ))?;
+    let subject = options.subject(rt, rule)?;
+    let yes = Question { subject, ends }.check(record.as_slice())?;
+    rt.println(if yes { "yes" } else { "no" })?;
+    Ok(())
 }

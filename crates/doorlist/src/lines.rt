@@ -1,84 +1,64 @@
 //! Answers and records as lines of text.
-use crate::show::kind_name;
+use model::Label;
 use plan::Plan;
-use std::alloc::{AllocError, Global};
+use std::fmt;
 
 /// The words of a record in decimal, with one space between.
-pub(crate) fn record_line(heap: Global, record: &[u16]) -> Result<String, AllocError> {
-    let mut line = String::new(heap);
-    for word in record {
-        if !line.is_empty() {
-            line.push_str(" ")?;
-        }
-        let text = format!(in heap; "{word}")?;
-        line.push_str(text.as_str())?;
-    }
-    Ok(line)
-}
+#[derive(Clone, Copy)]
+pub struct Record<'a>(pub &'a [u16]);
 
 /// The answer of a record: zones, the doors between them with their kinds, and the lists that are not empty.
-pub(crate) fn answer_line<P: Plan>(
-    heap: Global,
-    plan: &P,
-    record: &[u16],
-) -> Result<String, AllocError> {
-    let [_, start, steps @ ..] = record else {
-        return Ok(String::new(heap));
-    };
-    let mut line = format!(in heap; "{start}")?;
-    add_doors(heap, plan, steps, &mut line)?;
-    for mark in 1..=8u16 {
-        add_list(heap, steps, mark, &mut line)?;
-    }
-    Ok(line)
+#[derive(Drop)]
+pub struct Answer<'a, P: Plan> {
+    pub plan: &'a P,
+    pub record: &'a [u16],
 }
 
-fn add_doors<P: Plan>(
-    heap: Global,
-    plan: &P,
-    steps: &[u16],
-    line: &mut String,
-) -> Result<(), AllocError> {
-    for step in steps.chunks(3) {
-        if let [number, zone, _] = step {
-            let kind = match plan.passage(*number as usize) {
-                Some((_, _, kind)) => kind_name(kind),
-                None => "no door",
-            };
-            let text = format!(in heap; " -[{number} {kind}]-> {zone}")?;
-            line.push_str(text.as_str())?;
+impl fmt::Display for Record<'_> {
+    fn fmt<W: fmt::Write>(&self, f: &mut fmt::Formatter<W>) -> fmt::Result {
+        let [first, others @ ..] = self.0 else {
+            return Ok(());
+        };
+        write!(f, "{first}")?;
+        for word in others {
+            write!(f, " {word}")?;
         }
+        Ok(())
     }
-    Ok(())
 }
 
-// The passages with the mark, behind its letter.
-fn add_list(heap: Global, steps: &[u16], mark: u16, line: &mut String) -> Result<(), AllocError> {
-    let mut named = false;
-    for step in steps.chunks(3) {
-        if let [number, _, found] = step {
-            if *found == mark {
-                if !named {
-                    line.push_str(letter_heading(mark))?;
-                    named = true;
-                }
-                let text = format!(in heap; " {number}")?;
-                line.push_str(text.as_str())?;
+impl<P: Plan> fmt::Display for Answer<'_, P> {
+    fn fmt<W: fmt::Write>(&self, f: &mut fmt::Formatter<W>) -> fmt::Result {
+        let [_, start, words @ ..] = self.record else {
+            return Ok(());
+        };
+        let (steps, _) = words.as_chunks::<3>();
+        write!(f, "{start}")?;
+        for [number, zone, _] in steps {
+            match self.plan.passage(*number as usize) {
+                Some((_, _, kind)) => write!(f, " -[{number} {}]-> {zone}", Label::Kind(kind))?,
+                None => write!(f, " -[{number} no door]-> {zone}")?,
             }
         }
+        for (letter, mark) in ('A'..='H').zip(1..) {
+            write_list(f, letter, mark, steps)?;
+        }
+        Ok(())
     }
-    Ok(())
 }
 
-fn letter_heading(mark: u16) -> &'static str {
-    match mark {
-        1 => "  A:",
-        2 => "  B:",
-        3 => "  C:",
-        4 => "  D:",
-        5 => "  E:",
-        6 => "  F:",
-        7 => "  G:",
-        _ => "  H:",
+// The passages with the mark behind its letter, if there are any.
+fn write_list<W: fmt::Write>(
+    f: &mut fmt::Formatter<W>,
+    letter: char,
+    mark: u16,
+    steps: &[[u16; 3]],
+) -> fmt::Result {
+    if steps.iter().any(|[_, _, found]| *found == mark) {
+        write!(f, "  {letter}:")?;
     }
+    for [number, _, _] in steps.iter().filter(|[_, _, found]| *found == mark) {
+        write!(f, " {number}")?;
+    }
+    Ok(())
 }

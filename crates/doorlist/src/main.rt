@@ -9,20 +9,21 @@ mod floor;
 mod lines;
 mod options;
 mod problem;
+mod question;
 mod reading;
+mod restrictor;
 mod script;
 mod show;
 mod story;
-mod task;
 
+use crate::answers::{check, list};
 use crate::comparing::compare;
 use crate::floor::describe;
 use crate::options::{Command, Options};
 use crate::problem::Problem;
 use crate::reading::describe_pattern;
+use crate::script::run_script;
 use crate::story::tell;
-use crate::task::carry_out;
-use std::alloc::{AllocError, Global};
 use std::env;
 use std::env::Args;
 use std::process::ExitCode;
@@ -30,25 +31,6 @@ use std::process::ExitCode;
 const USAGE: &str = "doorlist | doorlist (plan | list | check | run | compare | pattern) ..";
 
 const PATTERN: &str = "doorlist pattern 'TEXT'";
-
-fn find_command(word: &str) -> Option<Command> {
-    match word {
-        "plan" => Some(Command::Plan),
-        "list" => Some(Command::List),
-        "check" => Some(Command::Check),
-        "run" => Some(Command::Run),
-        "compare" => Some(Command::Compare),
-        _ => None,
-    }
-}
-
-fn read_pattern(rt: &HostRuntime, words: Args) -> Result<(), Problem> {
-    let mut words = words;
-    match (words.next(), words.next()) {
-        (Some(text), None) => describe_pattern(rt, text.as_str()),
-        _ => Err(Problem::Usage(PATTERN)),
-    }
-}
 
 fn run(rt: &HostRuntime) -> Result<(), Problem> {
     let mut words = env::args(rt)?;
@@ -59,35 +41,38 @@ fn run(rt: &HostRuntime) -> Result<(), Problem> {
     if word.as_str() == "pattern" {
         return read_pattern(rt, words);
     }
-    let Some(command) = find_command(word.as_str()) else {
-        return Err(Problem::Usage(USAGE));
-    };
-    let heap = rt.alloc();
-    let (words, others) = split_words(heap, words)?;
-    let options = Options::read(heap, command, words)?;
-    match command {
-        Command::Compare => compare(rt, options, Options::read(heap, command, others)?),
-        _ if !others.is_empty() => Err(Problem::Usage(command.usage())),
-        Command::Plan => describe(rt, options),
-        _ => carry_out(rt, command, options),
+    let command = word
+        .as_str()
+        .parse::<Command>()
+        .map_err(|misread| misread.or(Problem::Usage(USAGE)))?;
+    carry_out(rt, command, words)
+}
+
+fn read_pattern(rt: &HostRuntime, words: Args) -> Result<(), Problem> {
+    let mut words = words;
+    match (words.next(), words.next()) {
+        (Some(text), None) => describe_pattern(rt, text.as_str()),
+        _ => Err(Problem::Usage(PATTERN)),
     }
 }
 
-// The words before the first `--`, and those behind it.
-fn split_words(heap: Global, words: Args) -> Result<(Vec<String>, Vec<String>), AllocError> {
-    let mut left = Vec::new(heap);
-    let mut right = Vec::new(heap);
-    let mut parted = false;
-    for word in words {
-        if parted {
-            right.push(word)?;
-        } else if word.as_str() == "--" {
-            parted = true;
-        } else {
-            left.push(word)?;
-        }
+fn carry_out(rt: &HostRuntime, command: Command, words: Args) -> Result<(), Problem> {
+    let heap = rt.alloc();
+    let mut words = words;
+    let left = words
+        .by_ref()
+        .take_while(|word| word.as_str() != "--")
+        .collect(heap)?;
+    let right: Vec<String> = words.collect(heap)?;
+    let options = Options::read(heap, command, left)?;
+    match command {
+        Command::Compare => compare(rt, options, Options::read(heap, command, right)?),
+        _ if !right.is_empty() => Err(Problem::Usage(command.usage())),
+        Command::Plan => describe(rt, options),
+        Command::List => list(rt, options),
+        Command::Check => check(rt, options),
+        Command::Run => run_script(rt, options),
     }
-    Ok((left, right))
 }
 
 fn main(rt: HostRuntime) -> ExitCode {

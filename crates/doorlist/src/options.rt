@@ -1,8 +1,12 @@
 //! The words of the command line.
-use crate::problem::Problem;
+use crate::floor::{Floor, Source};
+use crate::problem::{Misread, Problem};
+use crate::question::{Ends, Question, Subject};
+use crate::restrictor::Restrictor;
 use model::Choice;
 use plan::Sheet;
 use std::alloc::Global;
+use std::str::FromStr;
 
 /// What the program can do with a floor.
 #[derive(Clone, Copy)]
@@ -14,35 +18,12 @@ pub enum Command {
     Compare,
 }
 
-/// Where a floor comes from.
-#[derive(Drop)]
-pub enum Source {
-    Grid(u8, u8),
-    File(String),
-}
-
-/// The rules that a person can choose.
-#[derive(Clone, Copy)]
-pub enum Restrictor {
-    Trail,
-    Acyclic,
-    Simple,
-}
-
 /// How answers are written.
 #[derive(Clone, Copy)]
 pub enum Form {
     Lines,
     Records,
     Count,
-}
-
-/// Where routes start and end, and which of them are wanted.
-#[derive(Clone, Copy)]
-pub struct Ends {
-    pub start: u8,
-    pub target: u8,
-    pub choice: Choice,
 }
 
 /// What was said by options, and the other words in turn.
@@ -56,28 +37,65 @@ pub struct Options {
     choice: Choice,
     words: Vec<String>,
     pub shut: Option<Sheet>,
-    pub top: Option<u64>,
+    pub top: u64,
     pub form: Form,
 }
 
+// An option.
 #[derive(Clone, Copy)]
 enum Name {
+    Valued(Setting),
+    Shortest,
+    Written(Form),
+}
+
+// An option with a word behind it.
+#[derive(Clone, Copy)]
+enum Setting {
     Grid,
     Shut,
     Rule,
     From,
     To,
     Top,
-    Shortest,
-    Records,
-    Count,
 }
 
-const GRID: &str = "--grid takes rows and columns, as 2x3";
+impl FromStr for Command {
+    type Err = Misread;
 
-const SHUT: &str = "--shut takes passage numbers from 0 to 255, as 5,7";
+    fn from_str(word: &str) -> Result<Command, Misread> {
+        match word {
+            "plan" => Ok(Command::Plan),
+            "list" => Ok(Command::List),
+            "check" => Ok(Command::Check),
+            "run" => Ok(Command::Run),
+            "compare" => Ok(Command::Compare),
+            _ => Err(Misread::Words),
+        }
+    }
+}
+
+impl FromStr for Name {
+    type Err = Misread;
+
+    fn from_str(word: &str) -> Result<Name, Misread> {
+        match word {
+            "--grid" => Ok(Name::Valued(Setting::Grid)),
+            "--shut" => Ok(Name::Valued(Setting::Shut)),
+            "--rule" => Ok(Name::Valued(Setting::Rule)),
+            "--from" => Ok(Name::Valued(Setting::From)),
+            "--to" => Ok(Name::Valued(Setting::To)),
+            "--top" => Ok(Name::Valued(Setting::Top)),
+            "--shortest" => Ok(Name::Shortest),
+            "--records" => Ok(Name::Written(Form::Records)),
+            "--count" => Ok(Name::Written(Form::Count)),
+            _ => Err(Misread::Words),
+        }
+    }
+}
 
 impl Command {
+    // What `Problem::Usage` says; nothing else prints a command.
     pub(crate) fn usage(self) -> &'static str {
         match self {
             Command::Plan => "doorlist plan (FILE | --grid RxC) [--shut N,N..]",
@@ -94,44 +112,30 @@ impl Command {
 }
 
 impl Name {
-    fn find(word: &str) -> Option<Name> {
-        match word {
-            "--grid" => Some(Name::Grid),
-            "--shut" => Some(Name::Shut),
-            "--rule" => Some(Name::Rule),
-            "--from" => Some(Name::From),
-            "--to" => Some(Name::To),
-            "--top" => Some(Name::Top),
-            "--shortest" => Some(Name::Shortest),
-            "--records" => Some(Name::Records),
-            "--count" => Some(Name::Count),
-            _ => None,
-        }
-    }
-
     // Whether the command knows the option.
     fn fits(self, command: Command) -> bool {
         match self {
-            Name::Grid | Name::Shut => true,
-            Name::Rule => !matches!(command, Command::Plan),
-            Name::From | Name::To | Name::Shortest => !matches!(
+            Name::Valued(Setting::Grid | Setting::Shut) => true,
+            Name::Valued(Setting::Rule) => !matches!(command, Command::Plan),
+            Name::Valued(Setting::From | Setting::To) | Name::Shortest => !matches!(
                 command,
                 Command::Plan | Command::Run
             ),
-            Name::Top | Name::Records | Name::Count => matches!(command, Command::List),
+            Name::Valued(Setting::Top) | Name::Written(_) => matches!(command, Command::List),
         }
     }
+}
 
-    // What the word behind the option has to be.
-    fn value_words(self) -> &'static str {
+impl Setting {
+    // What the word behind the option has to be: a text for `Problem::Usage`, as a command's.
+    fn usage(self) -> &'static str {
         match self {
-            Name::Grid => GRID,
-            Name::Shut => SHUT,
-            Name::Rule => "--rule takes trail, acyclic or simple",
-            Name::From => "--from takes the number of a zone",
-            Name::To => "--to takes the number of a zone",
-            Name::Top => "--top takes a number of answers",
-            Name::Shortest | Name::Records | Name::Count => "this option takes nothing",
+            Setting::Grid => "--grid takes rows and columns, as 2x3",
+            Setting::Shut => "--shut takes passage numbers from 0 to 255, as 5,7",
+            Setting::Rule => "--rule takes trail, acyclic or simple",
+            Setting::From => "--from takes the number of a zone",
+            Setting::To => "--to takes the number of a zone",
+            Setting::Top => "--top takes a number of answers",
         }
     }
 }
@@ -152,41 +156,39 @@ impl Options {
             choice: Choice::All,
             words: Vec::new(heap),
             shut: None,
-            top: None,
+            top: u64::MAX,
             form: Form::Lines,
         };
-        let mut pending = None;
-        for word in words {
-            pending = options.take(pending, word)?;
+        let mut words = words.into_iter();
+        while let Some(word) = words.next() {
+            if let Some(setting) = options.take(word)? {
+                let misused = Problem::Usage(setting.usage());
+                let value = words.next().ok_or(misused)?;
+                options
+                    .set(setting, value.as_str())
+                    .map_err(|misread| misread.or(Problem::Usage(setting.usage())))?;
+            }
         }
-        match pending {
-            None => Ok(options),
-            Some(name) => Err(Problem::Usage(name.value_words())),
-        }
+        Ok(options)
     }
 
-    // Takes one word, which may be the value of the option before it; the option that waits for a value.
-    fn take(&mut self, pending: Option<Name>, word: String) -> Result<Option<Name>, Problem> {
-        if let Some(name) = pending {
-            self.set(name, word.as_str())?;
-            return Ok(None);
-        }
+    // Takes one word; the option that waits for a value.
+    fn take(&mut self, word: String) -> Result<Option<Setting>, Problem> {
         if !word.as_str().starts_with('-') {
             self.words.push(word)?;
             return Ok(None);
         }
-        match Name::find(word.as_str()) {
-            Some(name) if name.fits(self.command) => self.begin(name),
+        match word.as_str().parse::<Name>() {
+            Ok(name) if name.fits(self.command) => self.begin(name),
             _ => Err(self.misused()),
         }
     }
 
-    fn begin(&mut self, name: Name) -> Result<Option<Name>, Problem> {
+    fn begin(&mut self, name: Name) -> Result<Option<Setting>, Problem> {
         match name {
+            Name::Valued(setting) => return Ok(Some(setting)),
             Name::Shortest => self.choice = Choice::Shortest,
-            Name::Records => self.write_as(Form::Records)?,
-            Name::Count => self.write_as(Form::Count)?,
-            _ => return Ok(Some(name)),
+            Name::Written(form) => self.write_as(form)?,
         }
         Ok(None)
     }
@@ -199,29 +201,16 @@ impl Options {
         Ok(())
     }
 
-    fn set(&mut self, name: Name, value: &str) -> Result<(), Problem> {
-        match name {
-            Name::Grid => self.grid = Some(read_grid(value)?),
-            Name::Shut => self.shut = Some(read_shut(value)?),
-            Name::Rule => self.rule = read_rule(value),
-            Name::From => self.start = value.parse::<u8>().ok(),
-            Name::To => self.target = value.parse::<u8>().ok(),
-            _ => self.top = value.parse::<u64>().ok(),
-        }
-        if self.lacks(name) {
-            return Err(Problem::Usage(name.value_words()));
+    fn set(&mut self, setting: Setting, value: &str) -> Result<(), Misread> {
+        match setting {
+            Setting::Grid => self.grid = Some(read_grid(value)?),
+            Setting::Shut => self.shut = Some(read_shut(value)?),
+            Setting::Rule => self.rule = Some(value.parse::<Restrictor>()?),
+            Setting::From => self.start = Some(value.parse::<u8>()?),
+            Setting::To => self.target = Some(value.parse::<u8>()?),
+            Setting::Top => self.top = value.parse::<u64>()?,
         }
         Ok(())
-    }
-
-    fn lacks(&self, name: Name) -> bool {
-        match name {
-            Name::Rule => self.rule.is_none(),
-            Name::From => self.start.is_none(),
-            Name::To => self.target.is_none(),
-            Name::Top => self.top.is_none(),
-            _ => false,
-        }
     }
 
     fn misused(&self) -> Problem {
@@ -230,10 +219,7 @@ impl Options {
 
     /// Takes the last word that no option explains.
     pub(crate) fn last_word(&mut self) -> Result<String, Problem> {
-        match self.words.pop() {
-            Some(word) => Ok(word),
-            None => Err(self.misused()),
-        }
+        self.words.pop().ok_or(self.misused())
     }
 
     /// Takes the floor: the grid, or else the one word that is left.
@@ -249,51 +235,51 @@ impl Options {
     }
 
     pub(crate) fn rule(&self) -> Result<Restrictor, Problem> {
-        match self.rule {
-            Some(rule) => Ok(rule),
-            None => Err(self.misused()),
-        }
+        self.rule.ok_or(self.misused())
     }
 
     pub(crate) fn ends(&self) -> Result<Ends, Problem> {
-        let choice = self.choice;
-        match (self.start, self.target) {
-            (Some(start), Some(target)) => Ok(Ends {
-                start,
-                target,
-                choice,
-            }),
-            _ => Err(self.misused()),
-        }
+        Ok(Ends {
+            start: self.start.ok_or(self.misused())?,
+            target: self.target.ok_or(self.misused())?,
+            choice: self.choice,
+        })
+    }
+
+    /// Takes the pattern and the floor, and opens it.
+    pub(crate) fn subject(
+        &mut self,
+        rt: &HostRuntime,
+        rule: Restrictor,
+    ) -> Result<Subject, Problem> {
+        let text = self.last_word()?;
+        let source = self.source()?;
+        Ok(Subject {
+            floor: Floor::open(rt, source)?,
+            sheet: self.shut.unwrap_or(Sheet::blank()),
+            rule,
+            text,
+        })
+    }
+
+    /// Takes all of a question.
+    pub(crate) fn question(&mut self, rt: &HostRuntime) -> Result<Question, Problem> {
+        let ends = self.ends()?;
+        let rule = self.rule()?;
+        let subject = self.subject(rt, rule)?;
+        Ok(Question { subject, ends })
     }
 }
 
-fn read_rule(text: &str) -> Option<Restrictor> {
-    match text {
-        "trail" => Some(Restrictor::Trail),
-        "acyclic" => Some(Restrictor::Acyclic),
-        "simple" => Some(Restrictor::Simple),
-        _ => None,
-    }
+fn read_grid(text: &str) -> Result<(u8, u8), Misread> {
+    let (rows, columns) = text.split_once('x').ok_or(Misread::Words)?;
+    Ok((rows.parse::<u8>()?, columns.parse::<u8>()?))
 }
 
-fn read_grid(text: &str) -> Result<(u8, u8), Problem> {
-    let Some((rows, columns)) = text.split_once('x') else {
-        return Err(Problem::Usage(GRID));
-    };
-    match (rows.parse::<u8>(), columns.parse::<u8>()) {
-        (Ok(rows), Ok(columns)) => Ok((rows, columns)),
-        _ => Err(Problem::Usage(GRID)),
-    }
-}
-
-fn read_shut(text: &str) -> Result<Sheet, Problem> {
+fn read_shut(text: &str) -> Result<Sheet, Misread> {
     let mut sheet = Sheet::blank();
     for part in text.split(',') {
-        let Ok(number) = part.parse::<u8>() else {
-            return Err(Problem::Usage(SHUT));
-        };
-        sheet.shut_passage(number);
+        sheet.shut_passage(part.parse::<u8>()?);
     }
     Ok(sheet)
 }

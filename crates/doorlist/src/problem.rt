@@ -2,6 +2,7 @@
 use fault::Fault;
 use listing::Trouble;
 use std::alloc::{AllocError, AllocFailed};
+use std::num::ParseIntError;
 use std::{fmt, io};
 
 /// Why the program ends without doing what it was asked.
@@ -19,6 +20,37 @@ pub enum Problem {
     Io(io::Error),
     /// there was no memory for the replies
     Memory,
+}
+
+/// Why words could not be read.
+#[derive(Drop)]
+pub enum Misread {
+    /// they say nothing where they stand
+    Words,
+    /// there was no memory for what they say
+    Memory(AllocError),
+}
+
+impl Misread {
+    /// The problem that the words are, where it was not memory that failed.
+    pub(crate) fn or(self, problem: Problem) -> Problem {
+        match self {
+            Misread::Words => problem,
+            Misread::Memory(error) => Problem::from(error),
+        }
+    }
+}
+
+impl From<ParseIntError> for Misread {
+    fn from(_error: ParseIntError) -> Misread {
+        Misread::Words
+    }
+}
+
+impl From<AllocError> for Misread {
+    fn from(error: AllocError) -> Misread {
+        Misread::Memory(error)
+    }
 }
 
 impl From<Fault> for Problem {

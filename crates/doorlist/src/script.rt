@@ -1,132 +1,103 @@
 //! Scripts: a file of calls, one a line.
-use crate::lines::record_line;
-use crate::problem::Problem;
-use fault::Fault;
+use crate::lines::Record;
+use crate::options::Options;
+use crate::problem::{Misread, Problem};
 use listing::{Call, Reply};
 use model::Choice;
-use std::alloc::{AllocError, Global};
+use std::alloc::Global;
+use std::{fmt, fs};
+
+/// Makes the calls of the script behind the pattern, and prints what they reply.
+pub(crate) fn run_script(rt: &HostRuntime, options: Options) -> Result<(), Problem> {
+    let mut options = options;
+    let rule = options.rule()?;
+    let path = options.last_word()?;
+    let script = fs::read_to_string(rt, path.as_str()).map_err(|error| Problem::Unreadable(
+        path, error,
+    ))?;
+    let calls = read_script(rt.alloc(), script.as_str())?;
+    let subject = options.subject(rt, rule)?;
+    for reply in subject.replies(rt.alloc(), calls)? {
+        rt.println(ReplyLine(&reply))?;
+    }
+    Ok(())
+}
 
 /// The calls of a script.
-pub(crate) fn read_script(heap: Global, text: &str) -> Result<Vec<Call>, Problem> {
+fn read_script(heap: Global, text: &str) -> Result<Vec<Call>, Problem> {
     let mut calls = Vec::new(heap);
-    let mut number = 0usize;
-    for line in text.lines() {
-        number = number.saturating_add(1);
-        match read_call(heap, line.trim())? {
-            Some(call) => calls.push(call)?,
-            None => return Err(Problem::Script(number)),
-        }
+    for (number, line) in (1..).zip(text.lines()) {
+        let call = read_call(heap, line.trim()).map_err(|misread| misread.or(Problem::Script(
+            number,
+        )))?;
+        calls.push(call)?;
     }
     Ok(calls)
 }
 
-fn read_call(heap: Global, line: &str) -> Result<Option<Call>, AllocError> {
-    let (verb, rest) = match line.split_once(' ') {
-        Some(parts) => parts,
-        None => (line, ""),
-    };
+fn read_call(heap: Global, line: &str) -> Result<Call, Misread> {
+    let (verb, rest) = line.split_once(' ').unwrap_or((line, ""));
     match verb {
-        "pose" => Ok(read_pose(rest)),
+        "pose" => read_pose(rest),
         "next" => read_next(heap, rest),
-        "again" => Ok(if rest.is_empty() {
-            Some(Call::Again)
-        } else {
-            None
-        }),
-        "check" => match read_words(heap, rest)? {
-            Some(words) => Ok(Some(Call::Check(words))),
-            None => Ok(None),
-        },
-        "resume" => match read_words(heap, rest)? {
-            Some(words) => Ok(Some(Call::Resume(words))),
-            None => Ok(None),
-        },
-        _ => Ok(None),
+        "again" if rest.is_empty() => Ok(Call::Again),
+        "check" => Ok(Call::Check(read_words(heap, rest)?)),
+        "resume" => Ok(Call::Resume(read_words(heap, rest)?)),
+        _ => Err(Misread::Words),
     }
 }
 
-fn read_pose(rest: &str) -> Option<Call> {
-    let (start, others) = rest.split_once(' ')?;
-    let (target, choice) = others.split_once(' ')?;
-    let start = start.parse::<u8>().ok()?;
-    let target = target.parse::<u8>().ok()?;
+fn read_pose(rest: &str) -> Result<Call, Misread> {
+    let (start, others) = rest.split_once(' ').ok_or(Misread::Words)?;
+    let (target, choice) = others.split_once(' ').ok_or(Misread::Words)?;
+    let (start, target) = (start.parse::<u8>()?, target.parse::<u8>()?);
     match choice {
-        "all" => Some(Call::Pose(start, target, Choice::All)),
-        "shortest" => Some(Call::Pose(start, target, Choice::Shortest)),
-        _ => None,
+        "all" => Ok(Call::Pose(start, target, Choice::All)),
+        "shortest" => Ok(Call::Pose(start, target, Choice::Shortest)),
+        _ => Err(Misread::Words),
     }
 }
 
 // A buffer of so many words, or else one in which every record has room.
-fn read_next(heap: Global, rest: &str) -> Result<Option<Call>, AllocError> {
+fn read_next(heap: Global, rest: &str) -> Result<Call, Misread> {
     let size = if rest.is_empty() {
-        Ok(770)
+        770
     } else {
-        rest.parse::<usize>()
+        rest.parse::<usize>()?
     };
-    let Ok(size) = size else {
-        return Ok(None);
-    };
-    let buffer = vec![in heap; 0u16; size]?;
-    Ok(Some(Call::Next(buffer)))
+    Ok(Call::Next(vec![in heap; 0u16; size]?))
 }
 
-/// Words in decimal with spaces between, if the text is that.
-pub(crate) fn read_words(heap: Global, text: &str) -> Result<Option<Vec<u16>>, AllocError> {
-    let mut words = Vec::new(heap);
-    for part in text.split_whitespace() {
-        let Ok(word) = part.parse::<u16>() else {
-            return Ok(None);
-        };
-        words.push(word)?;
-    }
-    Ok(Some(words))
+/// Words in decimal with spaces between.
+pub(crate) fn read_words(heap: Global, text: &str) -> Result<Vec<u16>, Misread> {
+    text.split_whitespace()
+        .map(|word| -> Result<u16, Misread> { Ok(word.parse::<u16>()?) })
+        .try_collect(heap)
 }
 
-/// Prints one reply.
-pub(crate) fn show_reply(rt: &HostRuntime, reply: Reply) -> Result<(), Problem> {
-    match reply {
-        Reply::Pose(outcome) => show_done(rt, outcome, "posed"),
-        Reply::Next(outcome, buffer) => show_delivery(rt, outcome, buffer.as_slice()),
-        Reply::Again(outcome) => show_done(rt, outcome, "again"),
-        Reply::Check(outcome) => show_verdict(rt, outcome),
-        Reply::Resume(outcome) => show_done(rt, outcome, "resumed"),
-    }
-}
+/// A reply as a line.
+#[derive(Clone, Copy)]
+struct ReplyLine<'a>(&'a Reply);
 
-fn show_done(
-    rt: &HostRuntime,
-    outcome: Result<(), Fault>,
-    done: &'static str,
-) -> Result<(), Problem> {
-    match outcome {
-        Ok(()) => println!(rt; "{done}")?,
-        Err(fault) => println!(rt; "refused: {fault}")?,
-    }
-    Ok(())
-}
-
-fn show_verdict(rt: &HostRuntime, outcome: Result<bool, Fault>) -> Result<(), Problem> {
-    match outcome {
-        Ok(true) => println!(rt; "yes")?,
-        Ok(false) => println!(rt; "no")?,
-        Err(fault) => println!(rt; "refused: {fault}")?,
-    }
-    Ok(())
-}
-
-fn show_delivery(
-    rt: &HostRuntime,
-    outcome: Result<Option<usize>, Fault>,
-    words: &[u16],
-) -> Result<(), Problem> {
-    match outcome {
-        Ok(Some(count)) => {
-            let record = &words[..count.min(words.len())];
-            rt.println(record_line(rt.alloc(), record)?)?;
+impl fmt::Display for ReplyLine<'_> {
+    fn fmt<W: fmt::Write>(&self, f: &mut fmt::Formatter<W>) -> fmt::Result {
+        match self.0 {
+            Reply::Pose(Ok(())) => write!(f, "posed"),
+            Reply::Next(Ok(Some(count)), buffer) => {
+                let words = buffer.as_slice();
+                let record = Record(&words[..(*count).min(words.len())]);
+                write!(f, "{record}")
+            }
+            Reply::Next(Ok(None), _) => write!(f, "none left"),
+            Reply::Again(Ok(())) => write!(f, "again"),
+            Reply::Check(Ok(true)) => write!(f, "yes"),
+            Reply::Check(Ok(false)) => write!(f, "no"),
+            Reply::Resume(Ok(())) => write!(f, "resumed"),
+            Reply::Pose(Err(fault))
+            | Reply::Next(Err(fault), _)
+            | Reply::Again(Err(fault))
+            | Reply::Check(Err(fault))
+            | Reply::Resume(Err(fault)) => write!(f, "refused: {fault}"),
         }
-        Ok(None) => println!(rt; "none left")?,
-        Err(fault) => println!(rt; "refused: {fault}")?,
     }
-    Ok(())
 }

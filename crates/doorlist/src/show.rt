@@ -1,23 +1,32 @@
 //! Plans as lines of text.
-ghost use Rattle.std.specs.Prelude.{ℕ};
+ghost use Rattle.std.specs.Prelude.{◌-◌};
+ghost use Rattle.std.specs.Iterator.{at_most};
 
-use plan::Plan;
+use model::Label;
+use plan::{Closure, Plan};
 use std::io;
 
-pub(crate) fn kind_name(kind: u8) -> &'static str {
-    match kind {
-        0 => "free",
-        1 => "badge",
-        2 => "pin",
-        3 => "turn",
-        4 => "lift",
-        5 => "fire",
-        6 => "dock",
-        _ => "stair",
+/// The passages that leave a zone, in the order of their numbers.
+#[derive(Drop)]
+struct Leaving<'a, P: Plan> {
+    plan: &'a P,
+    zone: u8,
+    next: usize,
+}
+
+impl<P: Plan> Iterator for Leaving<'_, P> {
+    type Item = u8;
+
+    ghost remaining = { λ s. at_most (256 - s.next) };
+
+    fn next(&mut self) -> Option<u8> {
+        let number = self.plan.leaving(self.zone, self.next)?;
+        self.next = number as usize + 1;
+        Some(number)
     }
 }
 
-/// Each zone with the passages that leave it, in the order of their numbers.
+/// Each zone with the passages that leave it.
 pub(crate) fn show_plan<P: Plan>(rt: &HostRuntime, plan: &P) -> io::Result<()> {
     for zone in 0..plan.zones() {
         println!(rt; "zone {zone}")?;
@@ -27,48 +36,40 @@ pub(crate) fn show_plan<P: Plan>(rt: &HostRuntime, plan: &P) -> io::Result<()> {
 }
 
 fn show_leaving<P: Plan>(rt: &HostRuntime, plan: &P, zone: u8) -> io::Result<()> {
-    let mut next = 0;
-    while let Some(number) = plan.leaving(zone, next) {
-        show_passage(rt, plan, number)?;
-        next = number as usize + 1;
+    for number in (Leaving {
+        plan,
+        zone,
+        next: 0,
+    }) {
+        if let Some((_, destination, kind)) = plan.passage(number as usize) {
+            let kind = Label::Kind(kind);
+            println!(rt; "  {number} {kind} to {destination}")?;
+        }
     }
     Ok(())
 }
 
-fn show_passage<P: Plan>(rt: &HostRuntime, plan: &P, number: u8) -> io::Result<()> {
-    let Some((_, destination, kind)) = plan.passage(number as usize) else {
-        return Ok(());
-    };
-    let name = kind_name(kind);
-    println!(rt; "  {number} {name} to {destination}")
-}
-
-/// The passages of the plan below that the plan above has no more; how many there are.
-pub(crate) fn show_missing<P: Plan, Q: Plan>(
-    rt: &HostRuntime,
-    below: &P,
-    above: &Q,
-) -> io::Result<usize> {
-    let mut missing = 0usize;
-    for number in 0..=255u8 {
-        if let Some((origin, destination, kind)) = below.passage(number as usize) {
-            if above.passage(number as usize).is_none() {
-                let name = kind_name(kind);
-                println!(rt; "shut: {number} {name} from {origin} to {destination}")?;
-                missing = missing.saturating_add(1);
-            }
+/// The passages that are shut.
+pub(crate) fn show_shut<P: Plan>(rt: &HostRuntime, plan: &Closure<P>) -> io::Result<()> {
+    for number in (0..=255u8).filter(|number| plan.sheet.is_shut(*number)) {
+        if let Some((origin, destination, kind)) = plan.below.passage(number as usize) {
+            let kind = Label::Kind(kind);
+            println!(rt; "shut: {number} {kind} from {origin} to {destination}")?;
         }
     }
-    Ok(missing)
+    Ok(())
+}
+
+/// How many passages are shut.
+pub(crate) fn count_shut<P: Plan>(plan: &Closure<P>) -> usize {
+    (0..256usize)
+        .filter(|number| plan.below.passage(*number).is_some() && plan.passage(*number).is_none())
+        .count()
 }
 
 /// How many passages the plan has.
 pub(crate) fn count_passages<P: Plan>(plan: &P) -> usize {
-    let mut count = 0usize;
-    for number in 0..256usize {
-        if plan.passage(number).is_some() {
-            count = count.saturating_add(1);
-        }
-    }
-    count
+    (0..256usize)
+        .filter(|number| plan.passage(*number).is_some())
+        .count()
 }

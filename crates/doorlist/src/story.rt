@@ -1,14 +1,15 @@
 //! What the program does when it is asked nothing: one task after the other on a floor of its own.
-use crate::answers::list;
-use crate::comparing::{Side, same_answers};
-use crate::floor::{Floor, describe_plan};
-use crate::options::{Ends, Form, Restrictor};
+use crate::answers::Listing;
+use crate::comparing::say_verdict;
+use crate::floor::Floor;
+use crate::options::Form;
 use crate::problem::Problem;
+use crate::question::{Ends, Question, Subject};
 use crate::reading::describe_pattern;
+use crate::restrictor::Restrictor;
 use model::Choice;
 use pattern::Pattern;
-use plan::{Closure, FiledPlan, GridPlan, Sheet};
-use route::Trail;
+use plan::{FiledPlan, GridPlan, Sheet};
 
 /// A lobby (0), an office (1), a store (2) and a vault (3).
 pub const FLOOR: [u8; 26] = [
@@ -23,7 +24,7 @@ const TEXT: &str = "badge^A free? pin^B";
 /// Prints a floor, a pattern, its routes over the floor, what a shut door changes, and two floors side by side.
 pub(crate) fn tell(rt: &HostRuntime) -> Result<(), Problem> {
     println!(rt; "The built-in floor:")?;
-    describe_plan(rt, FiledPlan::open(&FLOOR)?, None)?;
+    Floor::Filed(FiledPlan::open(&FLOOR)?).describe(rt, None)?;
     println!(rt; "The pattern {TEXT}:")?;
     describe_pattern(rt, TEXT)?;
     tell_refusal(rt)?;
@@ -47,46 +48,49 @@ fn tell_refusal(rt: &HostRuntime) -> Result<(), Problem> {
 }
 
 fn tell_listing(rt: &HostRuntime, sheet: Sheet, choice: Choice) -> Result<(), Problem> {
-    let plan = Closure {
-        below: FiledPlan::open(&FLOOR)?,
+    let floor = Floor::Filed(FiledPlan::open(&FLOOR)?);
+    let subject = Subject {
+        floor,
         sheet,
+        rule: Restrictor::Trail,
+        text: String::from_str(rt.alloc(), TEXT)?,
     };
     let ends = Ends {
         start: 0,
         target: 3,
         choice,
     };
-    let tally = list(rt, plan, Trail, TEXT, ends, Form::Lines, u64::MAX)?;
-    let answers = tally.answers;
+    let question = Question { subject, ends };
+    let tally = Listing {
+        rt,
+        question: &question,
+        form: Form::Lines,
+        top: u64::MAX,
+    }
+    .write()?;
+    let answers = tally.answers();
     println!(rt; "answers: {answers}")?;
     Ok(())
 }
 
 fn tell_comparison(rt: &HostRuntime) -> Result<(), Problem> {
     println!(rt; "A grid of 1 by 2 and a file of the same floor, from 0 to 1 by free^A*:")?;
-    let grid = pair_side(rt, Floor::Grid(GridPlan::new(1, 2)?))?;
-    let file = pair_side(rt, Floor::Filed(FiledPlan::open(&PAIR)?))?;
-    let verdict = if same_answers(grid, file)? {
-        "equal"
-    } else {
-        "different"
-    };
-    println!(rt; "{verdict}")?;
-    Ok(())
+    let grid = pair_question(rt, Floor::Grid(GridPlan::new(1, 2)?))?;
+    let file = pair_question(rt, Floor::Filed(FiledPlan::open(&PAIR)?))?;
+    say_verdict(rt, grid, file)
 }
 
-fn pair_side(rt: &HostRuntime, floor: Floor) -> Result<Side, Problem> {
-    let text = String::from_str(rt.alloc(), "free^A*")?;
+fn pair_question(rt: &HostRuntime, floor: Floor) -> Result<Question, Problem> {
+    let subject = Subject {
+        floor,
+        sheet: Sheet::blank(),
+        rule: Restrictor::Trail,
+        text: String::from_str(rt.alloc(), "free^A*")?,
+    };
     let ends = Ends {
         start: 0,
         target: 1,
         choice: Choice::All,
     };
-    Ok(Side {
-        floor,
-        sheet: Sheet::blank(),
-        rule: Restrictor::Trail,
-        text,
-        ends,
-    })
+    Ok(Question { subject, ends })
 }

@@ -1,15 +1,14 @@
 //! One trial: calls on a desk, each compared with what the reference answers.
 use crate::calls::{Call, Desk, Difference, Reply};
-use crate::faults::fault_calls;
-use crate::lister::Want;
+use crate::lister::{Question, Want};
 use crate::random::Random;
 use crate::reference::Reference;
-use crate::scripts::{random_aside, random_call, random_pose};
 use crate::trouble::Trouble;
 use std::alloc::Global;
+use std::ops::AddAssign;
 
 /// What was compared.
-#[derive(Clone, Copy)]
+#[derive(Clone, Copy, Default)]
 pub struct Tally {
     pub calls: u64,
     pub answers: u64,
@@ -18,41 +17,47 @@ pub struct Tally {
     pub empty: u64,
 }
 
-impl Tally {
-    pub(crate) fn new() -> Tally {
-        Tally {
-            calls: 0,
-            answers: 0,
-            refusals: 0,
-            listings: 0,
-            empty: 0,
-        }
-    }
-
-    pub(crate) fn add(&mut self, other: Tally) {
+impl AddAssign for Tally {
+    fn add_assign(&mut self, other: Tally) {
         self.calls = self.calls.saturating_add(other.calls);
         self.answers = self.answers.saturating_add(other.answers);
         self.refusals = self.refusals.saturating_add(other.refusals);
         self.listings = self.listings.saturating_add(other.listings);
         self.empty = self.empty.saturating_add(other.empty);
     }
+}
 
-    fn count(&mut self, reply: Reply) {
-        self.calls = self.calls.saturating_add(1);
-        match reply {
-            Reply::Words(_) => self.answers = self.answers.saturating_add(1),
-            Reply::Refused(_) => self.refusals = self.refusals.saturating_add(1),
-            _ => {}
+impl Tally {
+    // One call with its reply.
+    fn of_call(reply: Reply) -> Tally {
+        Tally {
+            calls: 1,
+            answers: u64::from(matches!(reply, Reply::Words(_))),
+            refusals: u64::from(matches!(reply, Reply::Refused(_))),
+            listings: 0,
+            empty: 0,
+        }
+    }
+
+    // One full listing.
+    fn of_listing(is_empty: bool) -> Tally {
+        Tally {
+            calls: 0,
+            answers: 0,
+            refusals: 0,
+            listings: 1,
+            empty: u64::from(is_empty),
         }
     }
 }
 
-/// What a trial asks: a script of random calls, one listing, or the calls of a fault's example.
+/// What a trial asks: a script of random calls, one listing, or these calls.
+// no closure, since a desk has as many types as there are plans and rules
 #[derive(Clone, Copy)]
 pub enum Task {
     Script,
-    Listing(u8, u8, Want),
-    Fault(u8),
+    Listing(Question),
+    Calls(&'static [Call<&'static [u16]>]),
 }
 
 /// A reference, and what is asked of it and of a desk.
@@ -63,7 +68,7 @@ pub struct Trial {
     pub random: Random,
     pub task: Task,
     pub tally: Tally,
-    pub last: Reply,
+    pub last: Option<Reply>,
 }
 
 impl Trial {
@@ -74,8 +79,8 @@ impl Trial {
             reference,
             random,
             task,
-            tally: Tally::new(),
-            last: Reply::NoneLeft,
+            tally: Tally::default(),
+            last: None,
         }
     }
 
@@ -83,17 +88,26 @@ impl Trial {
     pub(crate) fn run<D: Desk>(&mut self, desk: &mut D) -> Result<(), Trouble> {
         match self.task {
             Task::Script => self.script(desk),
-            Task::Listing(start, target, want) => {
+            Task::Listing(question) => {
+                let Question {
+                    start,
+                    target,
+                    want,
+                } = question;
                 self.compare(desk, Call::Pose(start, target, want))?;
                 self.drain(desk)
             }
-            Task::Fault(number) => self.fault(desk, number),
+            Task::Calls(calls) => self.calls(desk, calls),
         }
     }
 
-    fn fault<D: Desk>(&mut self, desk: &mut D, number: u8) -> Result<(), Trouble> {
-        for call in fault_calls(self.heap, number)? {
-            self.compare(desk, call)?;
+    fn calls<D: Desk>(
+        &mut self,
+        desk: &mut D,
+        calls: &'static [Call<&'static [u16]>],
+    ) -> Result<(), Trouble> {
+        for call in calls {
+            self.compare(desk, call.owned(self.heap)?)?;
         }
         Ok(())
     }
@@ -102,7 +116,7 @@ impl Trial {
     fn script<D: Desk>(&mut self, desk: &mut D) -> Result<(), Trouble> {
         self.random_calls(desk, 4)?;
         for _ in 0..1 + self.random.below(3) {
-            let pose = random_pose(&mut self.random, &self.reference, 0);
+            let pose = self.random_pose(0);
             self.compare(desk, pose)?;
             self.drain(desk)?;
             let count = self.random.below(30);
@@ -113,7 +127,7 @@ impl Trial {
 
     fn random_calls<D: Desk>(&mut self, desk: &mut D, count: u8) -> Result<(), Trouble> {
         for _ in 0..count {
-            let call = random_call(self.heap, &mut self.random, &self.reference)?;
+            let call = self.random_call()?;
             self.compare(desk, call)?;
         }
         Ok(())
@@ -121,45 +135,32 @@ impl Trial {
 
     // The full listing, now and then with a call between that changes nothing.
     fn drain<D: Desk>(&mut self, desk: &mut D) -> Result<(), Trouble> {
-        for _ in 0..=self.reference.lines.len() {
+        for _ in 0..=self.reference.lines().len() {
             if self.random.chance(5) {
-                let aside = random_aside(self.heap, &mut self.random, &self.reference)?;
+                let aside = self.random_aside()?;
                 self.compare(desk, aside)?;
             }
             self.compare(desk, Call::Next(770))?;
         }
-        self.tally.listings = self.tally.listings.saturating_add(1);
-        if self.reference.lines.is_empty() {
-            self.tally.empty = self.tally.empty.saturating_add(1);
-        }
+        self.tally += Tally::of_listing(self.reference.lines().is_empty());
         Ok(())
     }
 
-    fn compare<D: Desk>(&mut self, desk: &mut D, call: Call) -> Result<(), Trouble> {
-        let length = match &call {
-            Call::Next(length) => *length,
-            _ => 0,
-        };
+    fn compare<D: Desk>(&mut self, desk: &mut D, call: Call<Vec<u16>>) -> Result<(), Trouble> {
         let filling = self.random.word();
-        let mut expected_words = vec![in self.heap; filling; length]?;
-        let mut got_words = vec![in self.heap; filling; length]?;
-        let expected = self.reference.answer(&call, expected_words.as_mut_slice())?;
-        let got = desk.answer(&call, got_words.as_mut_slice())?;
-        self.tally.count(expected);
-        self.last = expected;
-        if expected == got && expected_words == got_words {
+        let expected = call.ask(self.heap, &mut self.reference, filling)?;
+        let got = call.ask(self.heap, desk, filling)?;
+        self.tally += Tally::of_call(expected.reply);
+        self.last = Some(expected.reply);
+        if expected == got {
             return Ok(());
         }
-        let question = self.reference.question;
-        let number = self.tally.calls;
         Err(Trouble::Different(Difference {
-            question,
-            number,
+            question: self.reference.question(),
+            number: self.tally.calls,
             call,
             expected,
             got,
-            expected_words,
-            got_words,
         }))
     }
 }

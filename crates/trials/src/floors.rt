@@ -1,46 +1,48 @@
 //! Random floors as plan files and grids, with passages shut.
 use crate::cases::Source;
-use crate::floor::Floor;
+use crate::floor::{Floor, Passage};
+use crate::kinds::Kind;
 use crate::random::Random;
 use crate::trouble::Trouble;
 use std::alloc::Global;
 
 /// What a pattern over a floor should name: so many kinds from the first on, in a circle; on a long floor, where
 /// marks have too many ways to fall, every name with the same letter or none.
+// whether a floor is long has no value beside it: both sorts have the same kinds
 #[derive(Clone, Copy)]
 pub struct Kinds {
-    pub first: u8,
-    pub count: u8,
+    first: u8,
+    count: u8,
     pub long: bool,
 }
 
 impl Kinds {
-    pub(crate) fn pick(self, random: &mut Random) -> u8 {
-        self.first.wrapping_add(random.below(self.count)) % 8
+    pub(crate) fn pick(self, random: &mut Random) -> Kind {
+        Kind::in_circle(self.first.wrapping_add(random.below(self.count)))
     }
 }
 
-// A passage as a file has it, with its origin.
-#[derive(Clone, Copy)]
-struct Body {
-    origin: u8,
-    number: u8,
-    destination: u8,
-    kind: u8,
+// What a plan file is written from.
+#[derive(Drop)]
+struct Draft {
+    zones: u8,
+    kinds: Kinds,
+    bodies: Vec<Passage>,
 }
 
 /// A floor and the kinds that it has.
-pub(crate) fn random_source(heap: Global, random: &mut Random) -> Result<(Source, Kinds), Trouble> {
+pub(crate) fn random_source(
+    heap: Global,
+    random: &mut Random,
+) -> Result<(Source<Vec<u8>>, Kinds), Trouble> {
     if random.chance(25) {
         let source = Source::Grid(1 + random.below(3), 1 + random.below(3));
-        return Ok((
-            source,
-            Kinds {
-                first: 0,
-                count: 2,
-                long: false,
-            },
-        ));
+        let kinds = Kinds {
+            first: 0,
+            count: 2,
+            long: false,
+        };
+        return Ok((source, kinds));
     }
     let long = random.chance(1);
     let kinds = Kinds {
@@ -48,16 +50,16 @@ pub(crate) fn random_source(heap: Global, random: &mut Random) -> Result<(Source
         count: 1 + random.below(3),
         long,
     };
-    let file = if long {
-        ring_file(heap, random, kinds)?
+    let draft = if long {
+        ring(heap, random, kinds)?
     } else {
-        random_file(heap, random, kinds)?
+        random_draft(heap, random, kinds)?
     };
-    Ok((Source::File(file), kinds))
+    Ok((Source::File(draft.file(heap)?), kinds))
 }
 
 // A few passages between a few zones that stand together; the other zones have none.
-fn random_file(heap: Global, random: &mut Random, kinds: Kinds) -> Result<Vec<u8>, Trouble> {
+fn random_draft(heap: Global, random: &mut Random, kinds: Kinds) -> Result<Draft, Trouble> {
     let zones = if random.chance(90) {
         1 + random.below(6)
     } else {
@@ -66,104 +68,90 @@ fn random_file(heap: Global, random: &mut Random, kinds: Kinds) -> Result<Vec<u8
     let used = zones.min(1 + random.below(6));
     let first = random.below(zones);
     let most = if used == 1 { 5 } else { 5 + 2 * used.min(4) };
-    let mut bodies = Vec::new(heap);
+    let mut draft = Draft {
+        zones,
+        kinds,
+        bodies: Vec::new(heap),
+    };
     for _ in 0..random.below(most) {
         let origin = near(random, first, used, zones);
         let destination = near(random, first, used, zones);
-        let number = free_number(&bodies, random.byte());
-        bodies.push(Body {
-            origin,
-            number,
-            destination,
-            kind: kinds.pick(random),
-        })?;
+        draft.add(random, origin, destination)?;
     }
-    written(heap, zones, &bodies)
+    Ok(draft)
 }
 
 // One of the zones from the first on, in a circle.
 fn near(random: &mut Random, first: u8, used: u8, zones: u8) -> u8 {
     let zone = first as u16 + random.below(used) as u16;
-    if zones == 0 {
-        0
-    } else {
-        (zone % zones as u16) as u8
-    }
+    (zone.checked_rem(zones as u16).unwrap_or(0) & 0xff) as u8
 }
 
 // A long way round, perhaps with its last passage missing: the longest routes without a zone twice.
-fn ring_file(heap: Global, random: &mut Random, kinds: Kinds) -> Result<Vec<u8>, Trouble> {
+fn ring(heap: Global, random: &mut Random, kinds: Kinds) -> Result<Draft, Trouble> {
     let zones = if random.chance(50) {
         64
     } else {
         20 + random.below(45)
     };
     let missing = random.below(2);
-    let mut bodies = Vec::new(heap);
+    let mut draft = Draft {
+        zones,
+        kinds,
+        bodies: Vec::new(heap),
+    };
     for origin in 0..zones - missing {
         let destination = if origin + 1 < zones { origin + 1 } else { 0 };
-        let number = free_number(&bodies, random.byte());
-        bodies.push(Body {
-            origin,
+        draft.add(random, origin, destination)?;
+    }
+    Ok(draft)
+}
+
+impl Draft {
+    // A passage with a number of its own.
+    fn add(&mut self, random: &mut Random, origin: u8, destination: u8) -> Result<(), Trouble> {
+        let number = self.free_number(random.byte());
+        let kind = self.kinds.pick(random);
+        self.bodies.push(Passage {
             number,
+            origin,
             destination,
-            kind: kinds.pick(random),
+            kind,
         })?;
+        Ok(())
     }
-    written(heap, zones, &bodies)
-}
 
-// The first number from the wish on that no passage has.
-fn free_number(bodies: &Vec<Body>, wish: u8) -> u8 {
-    for step in 0..=255u8 {
-        let number = wish.wrapping_add(step);
-        if !has_number(bodies, number) {
-            return number;
+    // The first number from the wish on that no passage has.
+    fn free_number(&self, wish: u8) -> u8 {
+        (0..=255u8)
+            .map(|step| wish.wrapping_add(step))
+            .find(|number| !self.has_number(*number))
+            .unwrap_or(wish)
+    }
+
+    fn has_number(&self, number: u8) -> bool {
+        self.bodies.iter().any(|body| body.number == number)
+    }
+
+    // The bodies of each zone stand together, as they come; there are fewer than 256.
+    fn file(mut self, heap: Global) -> Result<Vec<u8>, Trouble> {
+        self.bodies.sort_by_key(|body| body.origin)?;
+        let mut file = vec![in heap; self.zones]?;
+        file.extend_from_slice(&self.bodies_before(self.zones))?;
+        for zone in 0..self.zones {
+            file.extend_from_slice(&self.bodies_before(zone))?;
         }
-    }
-    wish
-}
-
-fn has_number(bodies: &Vec<Body>, number: u8) -> bool {
-    for body in bodies.iter() {
-        if body.number == number {
-            return true;
+        for body in self.bodies {
+            file.extend_from_slice(&[body.number, body.destination, body.kind as u8])?;
         }
+        Ok(file)
     }
-    false
-}
 
-// The file of these passages, which are fewer than 256.
-fn written(heap: Global, zones: u8, bodies: &Vec<Body>) -> Result<Vec<u8>, Trouble> {
-    let mut contents = Vec::new(heap);
-    let mut rest = Vec::new(heap);
-    let mut count = 0u8;
-    for zone in 0..zones {
-        contents.push(count)?;
-        contents.push(0)?;
-        count = count.wrapping_add(add_bodies_of(&mut rest, zone, bodies)?);
+    // How many bodies the zones before one have, the bodies being sorted.
+    fn bodies_before(&self, zone: u8) -> [u8; 2] {
+        let count = self.bodies.partition_point(|body| body.origin < zone);
+        ((count & 0xffff) as u16).to_le_bytes()
     }
-    let mut file = Vec::new(heap);
-    file.push(zones)?;
-    file.push(count)?;
-    file.push(0)?;
-    file.extend_from_slice(contents.as_slice())?;
-    file.extend_from_slice(rest.as_slice())?;
-    Ok(file)
-}
-
-// The bodies of one zone, as they come; how many there are.
-fn add_bodies_of(rest: &mut Vec<u8>, zone: u8, bodies: &Vec<Body>) -> Result<u8, Trouble> {
-    let mut count = 0u8;
-    for body in bodies.iter() {
-        if body.origin == zone {
-            rest.push(body.number)?;
-            rest.push(body.destination)?;
-            rest.push(body.kind)?;
-            count = count.wrapping_add(1);
-        }
-    }
-    Ok(count)
 }
 
 /// No sheet, one or two; most of what they shut is there.
@@ -174,20 +162,24 @@ pub(crate) fn random_sheets(
 ) -> Result<Vec<Vec<u8>>, Trouble> {
     let mut sheets = Vec::new(heap);
     for _ in 0..random.below(3) {
-        let mut sheet = Vec::new(heap);
-        for _ in 0..random.below(4) {
-            sheet.push(random_number(random, floor))?;
-        }
-        sheets.push(sheet)?;
+        sheets.push(random_sheet(heap, random, floor)?)?;
     }
     Ok(sheets)
+}
+
+fn random_sheet(heap: Global, random: &mut Random, floor: &Floor) -> Result<Vec<u8>, Trouble> {
+    let mut sheet = Vec::new(heap);
+    for _ in 0..random.below(4) {
+        sheet.push(random_number(random, floor))?;
+    }
+    Ok(sheet)
 }
 
 fn random_number(random: &mut Random, floor: &Floor) -> u8 {
     let place = random.place(floor.passages.len());
     let other = random.byte();
     match floor.passages.get(place) {
-        Some(passage) if random.chance(80) => (passage.number & 0xff) as u8,
+        Some(passage) if random.chance(80) => passage.number,
         _ => other,
     }
 }

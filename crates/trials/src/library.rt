@@ -18,130 +18,139 @@ pub struct Library<P: Plan, R: Rule> {
     enquiry: Enquiry<P, R>,
 }
 
-/// A fault of the library by its number, layer and place.
-pub(crate) fn verdict(fault: Fault) -> Verdict {
-    Verdict {
-        number: fault.number(),
-        layer: fault.layer(),
-        place: fault.place(),
+impl From<Fault> for Verdict {
+    fn from(fault: Fault) -> Verdict {
+        Verdict {
+            number: fault.number(),
+            layer: fault.layer(),
+            place: fault.place(),
+        }
     }
 }
 
-fn done(res: Result<(), Fault>) -> Reply {
+impl From<Fault> for Trouble {
+    fn from(fault: Fault) -> Trouble {
+        Trouble::Refused(Verdict::from(fault))
+    }
+}
+
+impl From<()> for Reply {
+    fn from(_done: ()) -> Reply {
+        Reply::Done
+    }
+}
+
+impl From<Option<usize>> for Reply {
+    fn from(count: Option<usize>) -> Reply {
+        match count {
+            Some(count) => Reply::Words(count),
+            None => Reply::NoneLeft,
+        }
+    }
+}
+
+impl From<bool> for Reply {
+    fn from(yes: bool) -> Reply {
+        Reply::Says(yes)
+    }
+}
+
+fn reply<T>(res: Result<T, Fault>) -> Reply
+where
+    Reply: From<T>,
+{
     match res {
-        Ok(()) => Reply::Done,
-        Err(fault) => Reply::Refused(verdict(fault)),
+        Ok(answer) => Reply::from(answer),
+        Err(fault) => Reply::Refused(Verdict::from(fault)),
     }
 }
 
-fn delivered(res: Result<Option<usize>, Fault>) -> Reply {
-    match res {
-        Ok(Some(count)) => Reply::Words(count),
-        Ok(None) => Reply::NoneLeft,
-        Err(fault) => Reply::Refused(verdict(fault)),
-    }
-}
-
-fn said(res: Result<bool, Fault>) -> Reply {
-    match res {
-        Ok(yes) => Reply::Says(yes),
-        Err(fault) => Reply::Refused(verdict(fault)),
-    }
-}
-
-fn choice(want: Want) -> Choice {
-    match want {
-        Want::All => Choice::All,
-        Want::Shortest => Choice::Shortest,
+impl From<Want> for Choice {
+    fn from(want: Want) -> Choice {
+        match want {
+            Want::All => Choice::All,
+            Want::Shortest => Choice::Shortest,
+        }
     }
 }
 
 impl<P: Plan, R: Rule> Desk for Library<P, R> {
-    fn answer(&mut self, call: &Call, buffer: &mut [u16]) -> Result<Reply, Trouble> {
+    fn answer(&mut self, call: &Call<Vec<u16>>, buffer: &mut [u16]) -> Result<Reply, Trouble> {
         Ok(match call {
-            Call::Again => done(self.enquiry.again()),
-            Call::Next(_) => delivered(self.enquiry.next(buffer)),
-            Call::Pose(start, target, want) => done(
-                self.enquiry.pose(*start, *target, choice(*want)),
-            ),
-            Call::Check(words) => said(self.enquiry.check(words.as_slice())),
-            Call::Resume(words) => done(self.enquiry.resume(words.as_slice())),
+            Call::Again => reply(self.enquiry.again()),
+            Call::Next(_) => reply(self.enquiry.next(buffer)),
+            Call::Pose(start, target, want) => {
+                reply(self.enquiry.pose(*start, *target, Choice::from(*want)))
+            }
+            Call::Check(words) => reply(self.enquiry.check(words.as_slice())),
+            Call::Resume(words) => reply(self.enquiry.resume(words.as_slice())),
         })
     }
 }
 
-/// Runs a trial on the library's enquiry for the case; the fault, where the library refuses to make one.
-pub(crate) fn run(case: &Case, trial: &mut Trial) -> Result<Option<Verdict>, Trouble> {
-    let pattern = match Pattern::read(case.text.as_slice()) {
-        Ok(pattern) => pattern,
-        Err(fault) => return Ok(Some(verdict(fault))),
-    };
-    match &case.source {
-        Source::Grid(rows, columns) => match GridPlan::new(*rows, *columns) {
-            Ok(plan) => run_shut(plan, pattern, case, trial)?,
-            Err(fault) => return Ok(Some(verdict(fault))),
-        },
-        Source::File(bytes) => match FiledPlan::open(bytes.as_slice()) {
-            Ok(plan) => run_shut(plan, pattern, case, trial)?,
-            Err(fault) => return Ok(Some(verdict(fault))),
-        },
-    }
-    Ok(None)
+// What an enquiry needs beside its plan and rule, and the trial that is run on it.
+#[derive(Drop)]
+struct Bench<'a> {
+    case: &'a Case,
+    pattern: Pattern,
+    trial: &'a mut Trial,
 }
 
-fn sheet_of(numbers: &Vec<u8>) -> Sheet {
+/// Runs a trial on the library's enquiry for the case; refused where the library refuses to make one.
+pub(crate) fn run(case: &Case, trial: &mut Trial) -> Result<(), Trouble> {
+    let pattern = Pattern::read(case.text.as_slice())?;
+    let bench = Bench {
+        case,
+        pattern,
+        trial,
+    };
+    match &case.source {
+        Source::Grid(rows, columns) => bench.run_shut(GridPlan::new(*rows, *columns)?),
+        Source::File(bytes) => bench.run_shut(FiledPlan::open(bytes.as_slice())?),
+    }
+}
+
+fn sheet_of(numbers: &[u8]) -> Sheet {
     let mut sheet = Sheet::blank();
-    for number in numbers.iter() {
+    for number in numbers {
         sheet.shut_passage(*number);
     }
     sheet
 }
 
-// The first sheet lies below the second.
-fn run_shut<P: Plan + Drop>(
-    plan: P,
-    pattern: Pattern,
-    case: &Case,
-    trial: &mut Trial,
-) -> Result<(), Trouble> {
-    let Some(first) = case.sheets.get(0) else {
-        return run_ruled(plan, pattern, case, trial);
-    };
-    let once = Closure {
-        below: plan,
-        sheet: sheet_of(first),
-    };
-    let Some(second) = case.sheets.get(1) else {
-        return run_ruled(once, pattern, case, trial);
-    };
-    let twice = Closure {
-        below: once,
-        sheet: sheet_of(second),
-    };
-    run_ruled(twice, pattern, case, trial)
-}
-
-fn run_ruled<P: Plan + Drop>(
-    plan: P,
-    pattern: Pattern,
-    case: &Case,
-    trial: &mut Trial,
-) -> Result<(), Trouble> {
-    match case.rule {
-        Restrictor::Trail => run_enquiry(plan, pattern, Trail, trial),
-        Restrictor::Acyclic => run_enquiry(plan, pattern, Acyclic, trial),
-        Restrictor::Simple => run_enquiry(plan, pattern, Simple, trial),
+impl Bench<'_> {
+    // The first sheet lies below the second. Each closure is a type of its own, so no loop or recursion makes them.
+    fn run_shut<P: Plan + Drop>(self, plan: P) -> Result<(), Trouble> {
+        let Some(first) = self.case.sheets.get(0) else {
+            return self.run_ruled(plan);
+        };
+        let once = Closure {
+            below: plan,
+            sheet: sheet_of(first.as_slice()),
+        };
+        let Some(second) = self.case.sheets.get(1) else {
+            return self.run_ruled(once);
+        };
+        let twice = Closure {
+            below: once,
+            sheet: sheet_of(second.as_slice()),
+        };
+        self.run_ruled(twice)
     }
-}
 
-fn run_enquiry<P: Plan + Drop, R: Rule + Drop>(
-    plan: P,
-    pattern: Pattern,
-    rule: R,
-    trial: &mut Trial,
-) -> Result<(), Trouble> {
-    let mut library = Library {
-        enquiry: Enquiry::new(plan, pattern, rule),
-    };
-    trial.run(&mut library)
+    // The library's rules are types, so here a case's rule picks one.
+    fn run_ruled<P: Plan + Drop>(self, plan: P) -> Result<(), Trouble> {
+        match self.case.rule {
+            Restrictor::Trail => self.run_enquiry(plan, Trail),
+            Restrictor::Acyclic => self.run_enquiry(plan, Acyclic),
+            Restrictor::Simple => self.run_enquiry(plan, Simple),
+        }
+    }
+
+    fn run_enquiry<P: Plan + Drop, R: Rule + Drop>(self, plan: P, rule: R) -> Result<(), Trouble> {
+        let mut library = Library {
+            enquiry: Enquiry::new(plan, self.pattern, rule),
+        };
+        self.trial.run(&mut library)
+    }
 }

@@ -3,14 +3,15 @@
 //! It is written from the definitions alone and shares nothing with the library but the bytes of plans and
 //! patterns. It is slow, and easy to believe.
 use crate::bounds::{Work, searchable};
-use crate::floor::{Floor, Passage};
-use crate::markings::markings;
-use crate::routes::{Restrictor, routes, zone_after};
+use crate::floor::Floor;
+use crate::markings::route_markings;
+use crate::routes::{Restrictor, Route, routes};
 use crate::tree::Tree;
 use crate::trouble::Trouble;
 use std::alloc::Global;
 
 /// Which answers are wanted.
+// The library's choice is another type: the lister is written apart from it.
 #[derive(Clone, Copy, Debug)]
 pub enum Want {
     All,
@@ -20,8 +21,8 @@ pub enum Want {
 /// What a listing is asked for.
 #[derive(Clone, Copy, Debug)]
 pub struct Question {
-    pub start: u16,
-    pub target: u16,
+    pub start: u8,
+    pub target: u8,
     pub want: Want,
 }
 
@@ -32,84 +33,66 @@ pub struct Line {
     pub words: Vec<u16>,
 }
 
-/// The records of all answers, in their order.
-pub(crate) fn list(
-    heap: Global,
-    floor: &Floor,
-    tree: &Tree,
-    rule: Restrictor,
-    question: Question,
-) -> Result<Vec<Line>, Trouble> {
-    let routes = routes(heap, floor, rule, question.start)?;
-    searchable(tree, &routes, false)?;
-    let mut work = Work::new();
-    let mut lines = Vec::new(heap);
-    for steps in routes.iter() {
-        if zone_after(question.start, steps.as_slice(), steps.len()) == question.target {
-            add_lines(
-                heap,
-                &mut lines,
-                question.start,
-                tree,
-                steps.as_slice(),
-                &mut work,
-            )?;
+/// What is listed: the answers of a pattern on a floor under a rule.
+#[derive(Drop)]
+pub struct Lister {
+    pub heap: Global,
+    pub floor: Floor,
+    pub tree: Tree,
+    pub rule: Restrictor,
+}
+
+impl Lister {
+    /// The records of all answers, in their order.
+    pub(crate) fn list(&self, question: Question) -> Result<Vec<Line>, Trouble> {
+        let routes = routes(self.heap, &self.floor, self.rule, question.start)?;
+        searchable(&self.tree, routes.as_slice(), false)?;
+        let mut work = Work::new();
+        let mut lines = Vec::new(self.heap);
+        for route in routes.iter().filter(|route| route.end() == question.target) {
+            self.add_lines(&mut lines, route, &mut work)?;
         }
+        if let Want::Shortest = question.want {
+            searchable(&self.tree, routes.as_slice(), lines.is_empty())?;
+            keep_shortest(&mut lines);
+        }
+        lines.sort()?;
+        lines.dedup();
+        Ok(lines)
     }
-    if let Want::Shortest = question.want {
-        searchable(tree, &routes, lines.is_empty())?;
-        lines = shortest(heap, lines)?;
+
+    fn add_lines(
+        &self,
+        lines: &mut Vec<Line>,
+        route: &Route,
+        work: &mut Work,
+    ) -> Result<(), Trouble> {
+        let markings = route_markings(self.heap, &self.tree, route.steps.as_slice(), work)?;
+        for marking in markings.all.iter() {
+            lines.push(Line::new(self.heap, route, marking.as_slice())?)?;
+        }
+        Ok(())
     }
-    lines.sort()?;
-    lines.dedup();
-    Ok(lines)
 }
 
-fn add_lines(
-    heap: Global,
-    lines: &mut Vec<Line>,
-    start: u16,
-    tree: &Tree,
-    steps: &[Passage],
-    work: &mut Work,
-) -> Result<(), Trouble> {
-    for marking in markings(heap, tree, steps, work)?.iter() {
-        lines.push(record_line(heap, start, steps, marking.as_slice())?)?;
+impl Line {
+    fn new(heap: Global, route: &Route, marking: &[u8]) -> Result<Line, Trouble> {
+        let mut order = Vec::new(heap);
+        let mut words = Vec::new(heap);
+        words.push((route.steps.len() & 0xffff) as u16)?;
+        words.push(u16::from(route.start))?;
+        for (passage, mark) in route.steps.iter().zip(marking.iter()) {
+            let number = u16::from(passage.number);
+            let mark = u16::from(*mark);
+            order.extend_from_slice(&[number, mark])?;
+            words.extend_from_slice(&[number, u16::from(passage.destination), mark])?;
+        }
+        Ok(Line { order, words })
     }
-    Ok(())
-}
-
-fn record_line(
-    heap: Global,
-    start: u16,
-    steps: &[Passage],
-    marking: &[u8],
-) -> Result<Line, Trouble> {
-    let mut order = Vec::new(heap);
-    let mut words = Vec::new(heap);
-    words.push((steps.len() & 0xffff) as u16)?;
-    words.push(start)?;
-    for (passage, mark) in steps.iter().zip(marking.iter()) {
-        order.push(passage.number)?;
-        order.push(*mark as u16)?;
-        words.push(passage.number)?;
-        words.push(passage.destination)?;
-        words.push(*mark as u16)?;
-    }
-    Ok(Line { order, words })
 }
 
 // The lines of the fewest words.
-fn shortest(heap: Global, lines: Vec<Line>) -> Result<Vec<Line>, Trouble> {
-    let mut least = usize::MAX;
-    for line in lines.iter() {
-        least = least.min(line.words.len());
-    }
-    let mut kept = Vec::new(heap);
-    for line in lines {
-        if line.words.len() == least {
-            kept.push(line)?;
-        }
-    }
-    Ok(kept)
+fn keep_shortest(lines: &mut Vec<Line>) {
+    let least = lines.iter().map(|line| line.words.len()).min();
+    lines.retain(|line| Some(line.words.len()) == least);
 }

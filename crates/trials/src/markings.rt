@@ -1,227 +1,237 @@
 //! The ways in which a pattern marks a route.
 use crate::bounds::{MOST_MARKINGS, Work};
 use crate::floor::Passage;
-use crate::tree::{Fits, Node, Tree};
+use crate::tree::{Joint, Name, Repeat, Tree};
 use crate::trouble::Trouble;
 use std::alloc::Global;
+use std::collections::{BTreeMap, BTreeSet};
 
 /// A mark for each passage of a part of a route: 0 for no letter, 1 to 8 for A to H.
 pub type Marking = Vec<u8>;
 
-// For every part of a route, from one place up to another, the markings that one node gives it.
-#[derive(Drop)]
-struct Table {
-    side: usize,
-    cells: Vec<Vec<Marking>>,
+/// The markings of one part of a route, each once.
+#[derive(Clone, Drop)]
+pub struct Markings {
+    pub all: BTreeSet<Marking>,
 }
 
-impl Table {
-    fn at(&self, from: usize, to: usize) -> Option<&Vec<Marking>> {
-        self.cells
-            .get(from.wrapping_mul(self.side).wrapping_add(to))
+// What markings a pattern gives the parts of a route from one place on, by the place where a part ends.
+#[derive(Clone, Drop)]
+struct Row {
+    ends: BTreeMap<usize, Markings>,
+}
+
+// A row for each place of a route.
+type Table = Vec<Row>;
+
+impl Markings {
+    fn new(heap: Global) -> Markings {
+        Markings {
+            all: BTreeSet::new(heap),
+        }
+    }
+
+    fn add(&mut self, marking: Marking) -> Result<(), Trouble> {
+        if self.all.len() >= MOST_MARKINGS && !self.all.contains(&marking) {
+            return Err(Trouble::Large);
+        }
+        self.all.insert(marking)?;
+        Ok(())
+    }
+
+    fn add_all(&mut self, others: Markings) -> Result<(), Trouble> {
+        for marking in others.all {
+            self.add(marking)?;
+        }
+        Ok(())
+    }
+
+    // Every marking of the one with every marking of the other behind it.
+    fn add_products(&mut self, before: &Markings, behind: &Markings) -> Result<(), Trouble> {
+        for first in before.all.iter() {
+            self.add_behind(first, behind)?;
+        }
+        Ok(())
+    }
+
+    fn add_behind(&mut self, first: &Marking, behind: &Markings) -> Result<(), Trouble> {
+        for second in behind.all.iter() {
+            let mut marking = first.clone()?;
+            marking.extend_from_slice(second.as_slice())?;
+            self.add(marking)?;
+        }
+        Ok(())
     }
 }
 
-/// The markings that a pattern gives a whole route, each once.
-pub(crate) fn markings(
+impl Row {
+    fn new(heap: Global) -> Row {
+        Row {
+            ends: BTreeMap::new(heap),
+        }
+    }
+
+    // A row with one marking.
+    fn of_one(heap: Global, end: usize, marking: Marking) -> Result<Row, Trouble> {
+        let mut row = Row::new(heap);
+        let mut markings = Markings::new(heap);
+        markings.add(marking)?;
+        row.ends.insert(end, markings)?;
+        Ok(row)
+    }
+
+    fn add_all(&mut self, heap: Global, others: Row) -> Result<(), Trouble> {
+        for (end, markings) in others.ends {
+            self.ends
+                .entry(end)?
+                .or_insert(Markings::new(heap))
+                .add_all(markings)?;
+        }
+        Ok(())
+    }
+}
+
+// What a pattern is held against.
+#[derive(Drop)]
+struct Matcher<'a> {
+    heap: Global,
+    steps: &'a [Passage],
+    work: &'a mut Work,
+}
+
+/// The markings that a pattern gives a whole route.
+pub(crate) fn route_markings(
     heap: Global,
     tree: &Tree,
     steps: &[Passage],
     work: &mut Work,
-) -> Result<Vec<Marking>, Trouble> {
-    let mut tables = Vec::new(heap);
-    for node in tree.nodes.iter() {
-        let table = table_of(heap, *node, &tables, steps, work)?;
-        tables.push(table)?;
-    }
-    let mut all = Vec::new(heap);
-    add_all(&mut all, tables.get(tree.whole), 0, steps.len())?;
-    Ok(all)
-}
-
-fn table_of(
-    heap: Global,
-    node: Node,
-    parts: &Vec<Table>,
-    steps: &[Passage],
-    work: &mut Work,
-) -> Result<Table, Trouble> {
-    let side = steps.len().saturating_add(1);
-    let mut table = Table {
-        side,
-        cells: Vec::new(heap),
+) -> Result<Markings, Trouble> {
+    let mut matcher = Matcher { heap, steps, work };
+    let mut table = matcher.table(tree)?;
+    let whole = match table.first_mut() {
+        Some(row) => row.ends.remove(&steps.len()),
+        None => None,
     };
-    for from in 0..side {
-        for to in 0..side {
-            let set = set_of(heap, node, parts, &table, steps, from, to, work)?;
-            table.cells.push(set)?;
-        }
-    }
-    Ok(table)
+    Ok(whole.unwrap_or(Markings::new(heap)))
 }
 
-// The markings that a node gives the part of the route between two places. For a repetition its own table
-// has the shorter parts from the same place on, so that the last round can be split off: an empty round adds nothing.
-fn set_of(
-    heap: Global,
-    node: Node,
-    parts: &Vec<Table>,
-    own: &Table,
-    steps: &[Passage],
-    from: usize,
-    to: usize,
-    work: &mut Work,
-) -> Result<Vec<Marking>, Trouble> {
-    let mut set = Vec::new(heap);
-    work.spend()?;
-    if from > to {
-        return Ok(set);
-    }
-    match node {
-        Node::Empty => add_empty(heap, &mut set, from, to)?,
-        Node::Name(fits, mark) => add_name(heap, &mut set, steps.get(from..to), fits, mark)?,
-        Node::Then(left, right) => add_sequence(
-            &mut set,
-            parts.get(left),
-            parts.get(right),
-            from,
-            to,
-            work,
-        )?,
-        Node::Or(left, right) => {
-            add_all(&mut set, parts.get(left), from, to)?;
-            add_all(&mut set, parts.get(right), from, to)?;
-        }
-        Node::Star(once) => {
-            add_empty(heap, &mut set, from, to)?;
-            add_rounds(&mut set, own, parts.get(once), from, to, work)?;
-        }
-        Node::Plus(once) => {
-            add_all(&mut set, parts.get(once), from, to)?;
-            add_rounds(&mut set, own, parts.get(once), from, to, work)?;
-        }
-        Node::Maybe(once) => {
-            add_empty(heap, &mut set, from, to)?;
-            add_all(&mut set, parts.get(once), from, to)?;
+impl Matcher<'_> {
+    fn table(&mut self, tree: &Tree) -> Result<Table, Trouble> {
+        let places = self.steps.len().saturating_add(1);
+        self.work.spend(places.saturating_mul(places))?;
+        match tree {
+            Tree::Empty => self.nothing(),
+            Tree::Name(name) => self.named(*name),
+            Tree::Joined(joint, left, right) => {
+                let left = self.table(left)?;
+                let right = self.table(right)?;
+                match joint {
+                    Joint::Then => self.sequences(&left, &right),
+                    Joint::Or => self.either(left, right),
+                }
+            }
+            Tree::Repeated(repeat, once) => {
+                let once = self.table(once)?;
+                let first = match repeat {
+                    Repeat::Plus => once.clone()?,
+                    Repeat::Star | Repeat::Maybe => self.nothing()?,
+                };
+                match repeat {
+                    Repeat::Maybe => self.either(first, once),
+                    Repeat::Star | Repeat::Plus => self.rounds(first, once),
+                }
+            }
         }
     }
-    Ok(set)
-}
 
-// No passage, no mark.
-fn add_empty(heap: Global, set: &mut Vec<Marking>, from: usize, to: usize) -> Result<(), Trouble> {
-    if from == to {
-        set.push(Vec::new(heap))?;
-    }
-    Ok(())
-}
-
-// One passage that fits, with its mark.
-fn add_name(
-    heap: Global,
-    set: &mut Vec<Marking>,
-    part: Option<&[Passage]>,
-    fits: Fits,
-    mark: u8,
-) -> Result<(), Trouble> {
-    let Some([passage]) = part else {
-        return Ok(());
-    };
-    let fitting = match fits {
-        Fits::Any => true,
-        Fits::Kind(kind) => kind == passage.kind,
-    };
-    if fitting {
-        let mut marking = Vec::new(heap);
-        marking.push(mark)?;
-        set.push(marking)?;
-    }
-    Ok(())
-}
-
-fn add_all(
-    set: &mut Vec<Marking>,
-    table: Option<&Table>,
-    from: usize,
-    to: usize,
-) -> Result<(), Trouble> {
-    let Some(table) = table else {
-        return Ok(());
-    };
-    let Some(markings) = table.at(from, to) else {
-        return Ok(());
-    };
-    for marking in markings.iter() {
-        add_new(set, marking.clone()?)?;
-    }
-    Ok(())
-}
-
-// The marking, unless it is there already.
-fn add_new(set: &mut Vec<Marking>, marking: Marking) -> Result<(), Trouble> {
-    if set.as_slice().contains(&marking) {
-        return Ok(());
-    }
-    if set.len() >= MOST_MARKINGS {
-        return Err(Trouble::Large);
-    }
-    set.push(marking)?;
-    Ok(())
-}
-
-// Every marking of the left part up to a middle, with every marking of the right part from there on.
-fn add_sequence(
-    set: &mut Vec<Marking>,
-    left: Option<&Table>,
-    right: Option<&Table>,
-    from: usize,
-    to: usize,
-    work: &mut Work,
-) -> Result<(), Trouble> {
-    let (Some(left), Some(right)) = (left, right) else {
-        return Ok(());
-    };
-    for middle in from..=to {
-        if let (Some(before), Some(behind)) = (left.at(from, middle), right.at(middle, to)) {
-            add_products(set, before, behind, work)?;
+    // No passage, no mark.
+    fn nothing(&self) -> Result<Table, Trouble> {
+        let mut table = Vec::new(self.heap);
+        for place in 0..=self.steps.len() {
+            table.push(Row::of_one(self.heap, place, Vec::new(self.heap))?)?;
         }
+        Ok(table)
     }
-    Ok(())
-}
 
-// Every marking of the rounds up to a middle, with every marking of a last round that has a passage.
-fn add_rounds(
-    set: &mut Vec<Marking>,
-    rounds: &Table,
-    once: Option<&Table>,
-    from: usize,
-    to: usize,
-    work: &mut Work,
-) -> Result<(), Trouble> {
-    let Some(once) = once else {
-        return Ok(());
-    };
-    for middle in from..to {
-        if let (Some(before), Some(behind)) = (rounds.at(from, middle), once.at(middle, to)) {
-            add_products(set, before, behind, work)?;
+    // One passage that fits, with its mark.
+    fn named(&self, name: Name) -> Result<Table, Trouble> {
+        let mut table = Vec::new(self.heap);
+        for (passage, end) in self.steps.iter().zip(1usize..) {
+            table.push(if name.fits(passage.kind) {
+                Row::of_one(self.heap, end, vec![in self.heap; name.mark]?)?
+            } else {
+                Row::new(self.heap)
+            })?;
         }
+        table.push(Row::new(self.heap))?;
+        Ok(table)
     }
-    Ok(())
-}
 
-fn add_products(
-    set: &mut Vec<Marking>,
-    before: &Vec<Marking>,
-    behind: &Vec<Marking>,
-    work: &mut Work,
-) -> Result<(), Trouble> {
-    for first in before.iter() {
-        for second in behind.iter() {
-            work.spend()?;
-            let mut marking = first.clone()?;
-            marking.extend_from_slice(second.as_slice())?;
-            add_new(set, marking)?;
+    fn either(&self, left: Table, right: Table) -> Result<Table, Trouble> {
+        let mut table = left;
+        for (row, others) in table.iter_mut().zip(right) {
+            row.add_all(self.heap, others)?;
         }
+        Ok(table)
     }
-    Ok(())
+
+    fn sequences(&mut self, left: &Table, right: &Table) -> Result<Table, Trouble> {
+        let mut table = Vec::new(self.heap);
+        for row in left.iter() {
+            table.push(self.sequences_from(row, right)?)?;
+        }
+        Ok(table)
+    }
+
+    // Every marking of the left pattern up to a middle, with every marking of the right one from there on.
+    fn sequences_from(&mut self, left: &Row, right: &Table) -> Result<Row, Trouble> {
+        let mut row = Row::new(self.heap);
+        for (middle, before) in left.ends.iter() {
+            if let Some(behind) = right.get(*middle) {
+                self.add_behind(&mut row, before, behind)?;
+            }
+        }
+        Ok(row)
+    }
+
+    // The first rounds, with any number of further ones. An empty round adds nothing.
+    fn rounds(&mut self, first: Table, once: Table) -> Result<Table, Trouble> {
+        let mut further = once;
+        for (place, row) in further.iter_mut().enumerate() {
+            row.ends.remove(&place);
+        }
+        let mut table = first;
+        for row in table.iter_mut() {
+            self.add_rounds(row, &further)?;
+        }
+        Ok(table)
+    }
+
+    // Every round ends further on: when the turn comes to a place, the rounds up to it are all there.
+    fn add_rounds(&mut self, row: &mut Row, further: &Table) -> Result<(), Trouble> {
+        for (place, behind) in further.iter().enumerate() {
+            if let Some(before) = row.ends.remove(&place) {
+                self.add_behind(row, &before, behind)?;
+                row.ends.insert(place, before)?;
+            }
+        }
+        Ok(())
+    }
+
+    fn add_behind(
+        &mut self,
+        row: &mut Row,
+        before: &Markings,
+        behind: &Row,
+    ) -> Result<(), Trouble> {
+        for (end, after) in behind.ends.iter() {
+            self.work
+                .spend(before.all.len().saturating_mul(after.all.len()))?;
+            row.ends
+                .entry(*end)?
+                .or_insert(Markings::new(self.heap))
+                .add_products(before, after)?;
+        }
+        Ok(())
+    }
 }

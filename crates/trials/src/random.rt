@@ -28,14 +28,13 @@ impl Random {
     pub(crate) fn below(&mut self, limit: u8) -> u8
         ensures { result ≤ limit }
     {
-        if limit == 0 {
-            return 0;
-        }
-        (self.number() % limit as u64) as u8
+        self.place(limit as usize) as u8
     }
 
     /// A place in a list of that length; 0 where it has none.
-    pub(crate) fn place(&mut self, length: usize) -> usize {
+    pub(crate) fn place(&mut self, length: usize) -> usize
+        ensures { result ≤ length }
+    {
         if length == 0 {
             return 0;
         }

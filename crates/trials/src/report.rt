@@ -1,86 +1,142 @@
 //! What the program prints.
-use crate::calls::{Difference, Reply};
+use crate::calls::{Answer, Difference, Reply};
 use crate::cases::{Case, Source};
+use crate::compare::Tally;
+use crate::rounds::Outcomes;
 use crate::trouble::Trouble;
-use std::io;
+use std::fmt;
+
+/// Whether an example came out as it must.
+#[derive(Clone, Copy)]
+pub(crate) struct Came(pub bool);
+
+// Bytes as two digits each, with a space before each.
+#[derive(Clone, Copy)]
+struct Bytes<'a>(&'a [u8]);
+
+// A text as it reads, other bytes than letters, signs and spaces as dots.
+#[derive(Clone, Copy)]
+struct Text<'a>(&'a [u8]);
+
+impl fmt::Display for Came {
+    fn fmt<W: fmt::Write>(&self, f: &mut fmt::Formatter<W>) -> fmt::Result {
+        f.write_str(if self.0 { "ok" } else { "wrong" })
+    }
+}
+
+impl fmt::Display for Bytes<'_> {
+    fn fmt<W: fmt::Write>(&self, f: &mut fmt::Formatter<W>) -> fmt::Result {
+        for byte in self.0 {
+            write!(f, " {byte:02x}")?;
+        }
+        Ok(())
+    }
+}
+
+impl fmt::Display for Text<'_> {
+    fn fmt<W: fmt::Write>(&self, f: &mut fmt::Formatter<W>) -> fmt::Result {
+        for byte in self.0 {
+            let shown = match *byte {
+                b' '..=b'~' => *byte as char,
+                _ => '.',
+            };
+            write!(f, "{shown}")?;
+        }
+        Ok(())
+    }
+}
 
 /// Everything that is needed to make a floor again.
-pub(crate) fn show_case(rt: &HostRuntime, case: &Case) -> io::Result<()> {
-    match &case.source {
-        Source::Grid(rows, columns) => println!(rt; "  grid {rows} by {columns}")?,
-        Source::File(bytes) => show_bytes(rt, "file", bytes)?,
+impl fmt::Display for Case {
+    fn fmt<W: fmt::Write>(&self, f: &mut fmt::Formatter<W>) -> fmt::Result {
+        match &self.source {
+            Source::Grid(rows, columns) => writeln!(f, "  grid {rows} by {columns}")?,
+            Source::File(bytes) => writeln!(f, "  file{}", Bytes(bytes.as_slice()))?,
+        }
+        for sheet in self.sheets.iter() {
+            writeln!(f, "  shut {sheet:?}")?;
+        }
+        writeln!(f, "  text{}", Bytes(self.text.as_slice()))?;
+        writeln!(f, "  that is {}", Text(self.text.as_slice()))?;
+        let rule = self.rule;
+        write!(f, "  rule {rule:?}")
     }
-    for sheet in case.sheets.iter() {
-        println!(rt; "  shut {sheet:?}")?;
-    }
-    show_bytes(rt, "text", &case.text)?;
-    show_text(rt, case.text.as_slice())?;
-    let rule = case.rule;
-    println!(rt; "  rule {rule:?}")
-}
-
-fn show_bytes(rt: &HostRuntime, name: &str, bytes: &Vec<u8>) -> io::Result<()> {
-    print!(rt; "  {name}")?;
-    for byte in bytes.iter() {
-        print!(rt; " {byte:02x}")?;
-    }
-    println!(rt; "")
-}
-
-// The text as it reads, other bytes than letters, signs and spaces as dots.
-fn show_text(rt: &HostRuntime, text: &[u8]) -> io::Result<()> {
-    print!(rt; "  that is ")?;
-    for byte in text {
-        let shown = if *byte >= 32 && *byte < 127 {
-            *byte as char
-        } else {
-            '.'
-        };
-        print!(rt; "{shown}")?;
-    }
-    println!(rt; "")
 }
 
 /// Why the trials stopped.
-pub(crate) fn show_trouble(rt: &HostRuntime, trouble: &Trouble) -> io::Result<()> {
-    match trouble {
-        Trouble::Memory => println!(rt; "no memory is left"),
-        Trouble::Large => println!(rt; "too large for the lister"),
-        Trouble::Usage => println!(rt; "usage: trials [SEED [FLOORS]]"),
-        Trouble::Output(_) => Ok(()),
-        Trouble::Different(difference) => show_difference(rt, difference),
-        Trouble::Unlike(expected, got) => println!(rt; "  expected {expected:?}, got {got:?}"),
+impl fmt::Display for Trouble {
+    fn fmt<W: fmt::Write>(&self, f: &mut fmt::Formatter<W>) -> fmt::Result {
+        match self {
+            Trouble::Memory => write!(f, "no memory is left"),
+            Trouble::Large => write!(f, "too large for the lister"),
+            Trouble::Usage => write!(f, "usage: trials [SEED [FLOORS]]"),
+            Trouble::Output(error) => write!(f, "{error}"),
+            Trouble::Refused(verdict) => write!(f, "  refused {verdict:?}"),
+            Trouble::Different(difference) => write!(f, "{difference}"),
+            Trouble::Unlike { expected, got } => write!(f, "  expected {expected:?}, got {got:?}"),
+        }
     }
 }
 
-// What was asked, expected and got.
-fn show_difference(rt: &HostRuntime, difference: &Difference) -> io::Result<()> {
-    let Difference {
-        question,
-        number,
-        call,
-        expected,
-        got,
-        expected_words,
-        got_words,
-    } = difference;
-    println!(rt; "  posed {question:?}")?;
-    println!(rt; "  call {number}: {call:?}")?;
-    println!(rt; "  expected {expected:?}")?;
-    show_front(rt, expected, expected_words)?;
-    println!(rt; "  got {got:?}")?;
-    show_front(rt, got, got_words)
+/// What was asked, expected and got.
+impl fmt::Display for Difference {
+    fn fmt<W: fmt::Write>(&self, f: &mut fmt::Formatter<W>) -> fmt::Result {
+        let Difference {
+            question,
+            number,
+            call,
+            expected,
+            got,
+        } = self;
+        writeln!(f, "  posed {question:?}")?;
+        writeln!(f, "  call {number}: {call:?}")?;
+        writeln!(f, "  expected {expected}")?;
+        write!(f, "  got {got}")
+    }
 }
 
-// The record at the front of a buffer.
-fn show_front(rt: &HostRuntime, reply: &Reply, words: &Vec<u16>) -> io::Result<()> {
-    let count = match reply {
-        Reply::Words(count) => *count,
-        _ => 0,
-    };
-    print!(rt; "  words")?;
-    for word in words.iter().take(count) {
-        print!(rt; " {word}")?;
+/// The reply, and the record at the front of the buffer.
+impl fmt::Display for Answer {
+    fn fmt<W: fmt::Write>(&self, f: &mut fmt::Formatter<W>) -> fmt::Result {
+        let reply = self.reply;
+        let count = match reply {
+            Reply::Words(count) => count,
+            _ => 0,
+        };
+        write!(f, "{reply:?}\n  words")?;
+        for word in self.words.iter().take(count) {
+            write!(f, " {word}")?;
+        }
+        Ok(())
     }
-    println!(rt; "")
+}
+
+impl fmt::Display for Outcomes {
+    fn fmt<W: fmt::Write>(&self, f: &mut fmt::Formatter<W>) -> fmt::Result {
+        let Outcomes {
+            floors,
+            refused,
+            large,
+        } = self;
+        write!(
+            f,
+            "{floors} floors ({refused} with a text that is refused, {large} cut short as too large)"
+        )
+    }
+}
+
+impl fmt::Display for Tally {
+    fn fmt<W: fmt::Write>(&self, f: &mut fmt::Formatter<W>) -> fmt::Result {
+        let Tally {
+            calls,
+            answers,
+            refusals,
+            listings,
+            empty,
+        } = self;
+        write!(
+            f,
+            "{calls} calls compared ({refusals} refused), {listings} full listings ({empty} empty), {answers} answers"
+        )
+    }
 }

@@ -3,8 +3,10 @@ use crate::bounds::MOST_ROUTES;
 use crate::floor::{Floor, Passage};
 use crate::trouble::Trouble;
 use std::alloc::Global;
+use std::collections::VecDeque;
 
 /// Which routes are allowed.
+// The library's rules are types; the lister, written apart, has a list of its own.
 #[derive(Clone, Copy, Debug)]
 pub enum Restrictor {
     Trail,
@@ -12,45 +14,58 @@ pub enum Restrictor {
     Simple,
 }
 
-/// The passages of a route in turn; its start is known from elsewhere.
-pub type Steps = Vec<Passage>;
-
-/// The zone in which a route stands after so many passages.
-pub(crate) fn zone_after(start: u16, steps: &[Passage], count: usize) -> u16 {
-    if count == 0 {
-        return start;
-    }
-    match steps.get(count - 1) {
-        Some(passage) => passage.destination,
-        None => start,
-    }
+/// A route: where it starts, and its passages in turn.
+#[derive(Drop)]
+pub struct Route {
+    pub start: u8,
+    pub steps: Vec<Passage>,
 }
 
-// Two places of a route, the first before the second, that may not both be there: places are passages
-// for a trail and zones for the others.
-fn clash(rule: Restrictor, start: u16, steps: &[Passage], first: usize, second: usize) -> bool {
-    let same_zone = zone_after(start, steps, first) == zone_after(start, steps, second);
-    match rule {
-        Restrictor::Trail => match (steps.get(first), steps.get(second)) {
-            (Some(one), Some(other)) => one.number == other.number,
-            _ => false,
-        },
-        Restrictor::Acyclic => same_zone,
-        Restrictor::Simple => same_zone && !(first == 0 && second == steps.len()),
+impl Route {
+    /// The zone in which the route ends.
+    pub(crate) fn end(&self) -> u8 {
+        self.zone_after(self.steps.len())
     }
-}
 
-/// Whether a route keeps to the rule: a trail repeats no passage, an acyclic route no zone, and a simple
-/// one no zone but that its last may be its first.
-pub(crate) fn allowed(rule: Restrictor, start: u16, steps: &[Passage]) -> bool {
-    for second in 0..=steps.len() {
-        for first in 0..second {
-            if clash(rule, start, steps, first, second) {
-                return false;
-            }
+    // The zone in which the route stands after so many passages.
+    fn zone_after(&self, count: usize) -> u8 {
+        match self.steps.get(..count) {
+            Some([.., passage]) => passage.destination,
+            _ => self.start,
         }
     }
-    true
+
+    // Two places of the route, the first before the second, that may not both be there: places are passages
+    // for a trail and zones for the others.
+    fn clash(&self, rule: Restrictor, first: usize, second: usize) -> bool {
+        let same_zone = self.zone_after(first) == self.zone_after(second);
+        match rule {
+            Restrictor::Trail => match (self.steps.get(first), self.steps.get(second)) {
+                (Some(one), Some(other)) => one.number == other.number,
+                _ => false,
+            },
+            Restrictor::Acyclic => same_zone,
+            Restrictor::Simple => same_zone && !(first == 0 && second == self.steps.len()),
+        }
+    }
+
+    /// Whether the route keeps to the rule: a trail repeats no passage, an acyclic route no zone, and a simple
+    /// one no zone but that its last may be its first.
+    pub(crate) fn keeps(&self, rule: Restrictor) -> bool {
+        (0..=self.steps.len()).all(|second| (0..second).all(|first| !self.clash(
+            rule, first, second,
+        )))
+    }
+
+    // The route with one passage more.
+    fn longer(&self, passage: Passage) -> Result<Route, Trouble> {
+        let mut steps = self.steps.clone()?;
+        steps.push(passage)?;
+        Ok(Route {
+            start: self.start,
+            steps,
+        })
+    }
 }
 
 /// Every allowed route from the start, shorter before longer. Each is an allowed one with one passage more.
@@ -58,35 +73,39 @@ pub(crate) fn routes(
     heap: Global,
     floor: &Floor,
     rule: Restrictor,
-    start: u16,
-) -> Result<Vec<Steps>, Trouble> {
+    start: u8,
+) -> Result<Vec<Route>, Trouble> {
     let mut all = Vec::new(heap);
-    all.push(Vec::new(heap))?;
-    for place in 0..MOST_ROUTES {
-        let Some(steps) = all.get(place) else {
+    let mut ahead = VecDeque::new(heap);
+    ahead.push_back(Route {
+        start,
+        steps: Vec::new(heap),
+    })?;
+    for _ in 0..MOST_ROUTES {
+        let Some(route) = ahead.pop_front() else {
             return Ok(all);
         };
-        let steps = steps.clone()?;
-        add_longer(&mut all, floor, rule, start, &steps)?;
+        add_longer(&mut ahead, floor, rule, &route)?;
+        all.push(route)?;
     }
     Err(Trouble::Large)
 }
 
 fn add_longer(
-    all: &mut Vec<Steps>,
+    ahead: &mut VecDeque<Route>,
     floor: &Floor,
     rule: Restrictor,
-    start: u16,
-    steps: &Steps,
+    route: &Route,
 ) -> Result<(), Trouble> {
-    let here = zone_after(start, steps.as_slice(), steps.len());
-    for passage in floor.passages.iter() {
-        if passage.origin == here {
-            let mut longer = steps.clone()?;
-            longer.push(*passage)?;
-            if allowed(rule, start, longer.as_slice()) {
-                all.push(longer)?;
-            }
+    let here = route.end();
+    let onward = floor
+        .passages
+        .iter()
+        .filter(|passage| passage.origin == here);
+    for passage in onward {
+        let longer = route.longer(*passage)?;
+        if longer.keeps(rule) {
+            ahead.push_back(longer)?;
         }
     }
     Ok(())

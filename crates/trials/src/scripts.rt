@@ -1,161 +1,153 @@
-//! Random calls: proper ones, and ones that must be refused.
+//! Random calls: proper ones, and ones that must be refused. A match on a random number is a table of chances.
 use crate::calls::Call;
-use crate::lister::Want;
+use crate::compare::Trial;
+use crate::floor::Passage;
+use crate::lister::{Line, Want};
 use crate::random::Random;
-use crate::reference::Reference;
 use crate::trouble::Trouble;
 use std::alloc::Global;
 
-/// Any of the five calls.
-pub(crate) fn random_call(
-    heap: Global,
-    random: &mut Random,
-    reference: &Reference,
-) -> Result<Call, Trouble> {
-    match random.below(20) {
-        0..=8 => Ok(Call::Next(random_length(random))),
-        9 => Ok(Call::Again),
-        10..=14 => Ok(Call::Check(random_words(heap, random, reference)?)),
-        15..=18 => Ok(Call::Resume(random_words(heap, random, reference)?)),
-        _ => Ok(random_pose(random, reference, 10)),
-    }
-}
-
-/// A call that changes nothing: a check, or a next without room.
-pub(crate) fn random_aside(
-    heap: Global,
-    random: &mut Random,
-    reference: &Reference,
-) -> Result<Call, Trouble> {
-    if random.chance(20) {
-        return Ok(Call::Next(random.place(770)));
-    }
-    Ok(Call::Check(random_words(heap, random, reference)?))
-}
-
-fn random_length(random: &mut Random) -> usize {
-    match random.below(20) {
-        0 => 769,
-        1 => 771,
-        2 => random.place(770),
-        3 => 770 + random.below(200) as usize,
-        _ => 770,
-    }
-}
-
-/// A question, its ends mostly where passages begin and end, or those of the question before; so many times in a
-/// hundred an end is perhaps no zone.
-pub(crate) fn random_pose(random: &mut Random, reference: &Reference, astray: u8) -> Call {
-    let want = if random.chance(60) {
-        Want::All
-    } else {
-        Want::Shortest
-    };
-    let again = random.chance(30);
-    match reference.question {
-        Some(question) if again => Call::Pose(
-            (question.start & 0xff) as u8,
-            (question.target & 0xff) as u8,
-            want,
-        ),
-        _ => {
-            let start = random_end(random, reference, astray, true);
-            let target = random_end(random, reference, astray, false);
-            Call::Pose(start, target, want)
+impl Trial {
+    /// Any of the five calls.
+    pub(crate) fn random_call(&mut self) -> Result<Call<Vec<u16>>, Trouble> {
+        match self.random.below(20) {
+            0..=8 => Ok(Call::Next(self.random.length())),
+            9 => Ok(Call::Again),
+            10..=14 => Ok(Call::Check(self.random_words()?)),
+            15..=18 => Ok(Call::Resume(self.random_words()?)),
+            _ => Ok(self.random_pose(10)),
         }
     }
-}
 
-fn random_end(random: &mut Random, reference: &Reference, astray: u8, start: bool) -> u8 {
-    let zones = (reference.floor.zones & 0xff) as u8;
-    if random.chance(astray) {
-        return if random.chance(50) {
-            zones
+    /// A call that changes nothing: a check, or a next without room.
+    pub(crate) fn random_aside(&mut self) -> Result<Call<Vec<u16>>, Trouble> {
+        if self.random.chance(20) {
+            return Ok(Call::Next(self.random.place(770)));
+        }
+        Ok(Call::Check(self.random_words()?))
+    }
+
+    /// A question, its ends mostly where passages begin and end, or those of the question before; so many times in
+    /// a hundred an end is perhaps no zone.
+    pub(crate) fn random_pose(&mut self, astray: u8) -> Call<Vec<u16>> {
+        let want = if self.random.chance(60) {
+            Want::All
         } else {
-            random.byte()
+            Want::Shortest
         };
+        let again = self.random.chance(30);
+        match self.reference.question() {
+            Some(question) if again => Call::Pose(question.start, question.target, want),
+            _ => {
+                let start = self.random_end(astray, |passage| passage.origin);
+                let target = self.random_end(astray, |passage| passage.destination);
+                Call::Pose(start, target, want)
+            }
+        }
     }
-    let place = random.place(reference.floor.passages.len());
-    let other = random.below(zones);
-    match reference.floor.passages.get(place) {
-        Some(passage) if random.chance(75) => ((if start {
-            passage.origin
+
+    fn random_end<F: Fn(&Passage) -> u8 + Drop>(&mut self, astray: u8, end_of: F) -> u8
+        requires { F.IsAlwaysCallable end_of }
+    {
+        let floor = &self.reference.lister.floor;
+        if self.random.chance(astray) {
+            return if self.random.chance(50) {
+                floor.zones
+            } else {
+                self.random.byte()
+            };
+        }
+        let place = self.random.place(floor.passages.len());
+        let other = self.random.below(floor.zones);
+        match floor.passages.get(place) {
+            Some(passage) if self.random.chance(75) => end_of(passage),
+            _ => other,
+        }
+    }
+
+    // A record of this listing or the one before, or of no listing.
+    fn random_record(&mut self) -> Result<Vec<u16>, Trouble> {
+        if self.random.chance(80) {
+            self.random.record(self.heap, self.reference.lines())
         } else {
-            passage.destination
-        }) & 0xff) as u8,
-        _ => other,
+            self.random.record(self.heap, self.reference.lines_before())
+        }
+    }
+
+    // A record, as it is, longer, spoilt or cut; or words without sense.
+    fn random_words(&mut self) -> Result<Vec<u16>, Trouble> {
+        let mut words = self.random_record()?;
+        match self.random.below(10) {
+            0..=4 => {}
+            5 => self.random.add_tail(&mut words)?,
+            6 | 7 => self.random.spoil(words.as_mut_slice()),
+            8 => words.truncate(self.random.place(words.len())),
+            _ => return self.random.malformed(self.heap),
+        }
+        Ok(words)
     }
 }
 
-// A record of this listing or the one before, or of no listing; as it is, longer, spoilt or cut; or words without sense.
-fn random_words(
-    heap: Global,
-    random: &mut Random,
-    reference: &Reference,
-) -> Result<Vec<u16>, Trouble> {
-    let mut words = Vec::new(heap);
-    let lines = if random.chance(80) {
-        &reference.lines
-    } else {
-        &reference.others
-    };
-    let place = random.place(lines.len());
-    match lines.get(place) {
-        Some(line) if random.chance(90) => words.extend_from_slice(line.words.as_slice())?,
-        _ => add_random_record(&mut words, random)?,
+impl Random {
+    fn length(&mut self) -> usize {
+        match self.below(20) {
+            0 => 769,
+            1 => 771,
+            2 => self.place(770),
+            3 => 770 + self.below(200) as usize,
+            _ => 770,
+        }
     }
-    match random.below(10) {
-        0..=4 => {}
-        5 => add_tail(&mut words, random)?,
-        6 | 7 => spoil(&mut words, random),
-        8 => words.truncate(random.place(words.len())),
-        _ => words = random_malformed(heap, random)?,
-    }
-    Ok(words)
-}
 
-fn add_random_record(words: &mut Vec<u16>, random: &mut Random) -> Result<(), Trouble> {
-    let count = random.below(4);
-    words.push(count as u16)?;
-    words.push(random.below(6) as u16)?;
-    for _ in 0..count {
-        words.push(random.byte() as u16)?;
-        words.push(random.below(6) as u16)?;
-        words.push(random.below(9) as u16)?;
+    // One of these records, or one that is perhaps not among them.
+    fn record(&mut self, heap: Global, lines: &[Line]) -> Result<Vec<u16>, Trouble> {
+        match lines.get(self.place(lines.len())) {
+            Some(line) if self.chance(90) => Ok(line.words.clone()?),
+            _ => self.other_record(heap),
+        }
     }
-    Ok(())
-}
 
-fn add_tail(words: &mut Vec<u16>, random: &mut Random) -> Result<(), Trouble> {
-    for _ in 0..random.below(5) {
-        words.push(random.word())?;
+    fn other_record(&mut self, heap: Global) -> Result<Vec<u16>, Trouble> {
+        let count = self.below(4);
+        let mut words = vec![in heap; u16::from(count), u16::from(self.below(6))]?;
+        for _ in 0..count {
+            let number = u16::from(self.byte());
+            let zone = u16::from(self.below(6));
+            words.extend_from_slice(&[number, zone, u16::from(self.below(9))])?;
+        }
+        Ok(words)
     }
-    Ok(())
-}
 
-// One word becomes another.
-fn spoil(words: &mut Vec<u16>, random: &mut Random) {
-    let place = random.place(words.len());
-    let other = match random.below(4) {
-        0 => random.word(),
-        1 => random.below(12) as u16,
-        2 => 256,
-        _ => random.below(64) as u16,
-    };
-    if let Some(word) = words.get_mut(place) {
-        *word = other;
+    fn add_tail(&mut self, words: &mut Vec<u16>) -> Result<(), Trouble> {
+        for _ in 0..self.below(5) {
+            words.push(self.word())?;
+        }
+        Ok(())
     }
-}
 
-// Many words with a count near the greatest.
-fn random_malformed(heap: Global, random: &mut Random) -> Result<Vec<u16>, Trouble> {
-    let mut words = Vec::new(heap);
-    words.push(250 + random.below(10) as u16)?;
-    for _ in 0..random.place(800) {
-        words.push(random.below(9) as u16)?;
+    // One word becomes another.
+    fn spoil(&mut self, words: &mut [u16]) {
+        let place = self.place(words.len());
+        let other = match self.below(4) {
+            0 => self.word(),
+            1 => u16::from(self.below(12)),
+            2 => 256,
+            _ => u16::from(self.below(64)),
+        };
+        if let Some(word) = words.get_mut(place) {
+            *word = other;
+        }
     }
-    if random.chance(50) {
-        spoil(&mut words, random);
+
+    // Many words with a count near the greatest.
+    fn malformed(&mut self, heap: Global) -> Result<Vec<u16>, Trouble> {
+        let mut words = vec![in heap; 250 + u16::from(self.below(10))]?;
+        for _ in 0..self.place(800) {
+            words.push(u16::from(self.below(9)))?;
+        }
+        if self.chance(50) {
+            self.spoil(words.as_mut_slice());
+        }
+        Ok(words)
     }
-    Ok(words)
 }

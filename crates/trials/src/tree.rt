@@ -1,45 +1,68 @@
 //! Pattern texts, read by a stack and not by descent; the first fault of a text that is none.
 use crate::calls::Verdict;
+use crate::kinds::{Kind, Word};
 use crate::trouble::Trouble;
 use std::alloc::Global;
+use std::mem;
 
-/// The passages that a name fits.
+/// A name with its letter: the kind of passage that it fits, or any where there is none, and the mark.
 #[derive(Clone, Copy)]
-pub enum Fits {
-    Any,
-    Kind(u8),
+pub struct Name {
+    pub kind: Option<Kind>,
+    /// 0 for no letter, 1 to 8 for A to H, as a record has it
+    // a number and no enum, since it is only copied into records, and sorted and compared there
+    pub mark: u8,
 }
 
-/// A pattern, its parts named by their places in the list of nodes.
+/// How two patterns stand side by side.
 #[derive(Clone, Copy)]
-pub enum Node {
-    Empty,
-    Name(Fits, u8),
-    Then(usize, usize),
-    Or(usize, usize),
-    Star(usize),
-    Plus(usize),
-    Maybe(usize),
+pub enum Joint {
+    Then,
+    Or,
 }
 
-/// Every part of a pattern, each behind its own parts, and the place of the whole.
+/// How often a pattern may come.
+#[derive(Clone, Copy)]
+pub enum Repeat {
+    Star,
+    Plus,
+    Maybe,
+}
+
+/// A pattern.
 #[derive(Drop)]
-pub struct Tree {
-    pub nodes: Vec<Node>,
-    pub whole: usize,
+pub enum Tree {
+    Empty,
+    Name(Name),
+    Joined(Joint, Box<Tree>, Box<Tree>),
+    Repeated(Repeat, Box<Tree>),
+}
+
+impl Name {
+    pub(crate) fn fits(self, kind: Kind) -> bool {
+        self.kind.is_none_or(|fitting| fitting == kind)
+    }
+}
+
+impl Tree {
+    /// Whether a name of the pattern fits that kind and has that mark.
+    pub(crate) fn gives(&self, kind: Kind, mark: u8) -> bool {
+        match self {
+            Tree::Empty => false,
+            Tree::Name(name) => name.mark == mark && name.fits(kind),
+            Tree::Joined(_, left, right) => left.gives(kind, mark) || right.gives(kind, mark),
+            Tree::Repeated(_, once) => once.gives(kind, mark),
+        }
+    }
 }
 
 #[derive(Clone, Copy)]
 enum Token {
-    End,
-    Empty,
-    Name(Fits),
+    Word(Word),
     Letter(u8),
     Caret,
     Bar,
-    Star,
-    Plus,
-    Maybe,
+    Repeat(Repeat),
     Open,
     Close,
 }
@@ -58,63 +81,44 @@ enum Awaits {
 }
 
 // What is read of a pattern in parentheses: alternatives, the sequence behind them, and its last item.
-#[derive(Clone, Copy)]
+#[derive(Default, Drop)]
 struct Level {
-    alternatives: Option<usize>,
-    sequence: Option<usize>,
-    item: Option<usize>,
+    alternatives: Option<Tree>,
+    sequence: Option<Tree>,
+    item: Option<Tree>,
 }
 
 #[derive(Drop)]
 struct Builder {
-    nodes: Vec<Node>,
+    heap: Global,
     outer: Vec<Level>,
     level: Level,
     awaits: Awaits,
     names: usize,
 }
 
-const NEW_LEVEL: Level = Level {
-    alternatives: None,
-    sequence: None,
-    item: None,
-};
-
-/// The tree of a text, or the text's first fault.
-pub(crate) fn read(heap: Global, text: &[u8]) -> Result<Result<Tree, Verdict>, Trouble> {
+/// The tree of a text; where it has none, the text's first fault.
+pub(crate) fn read(heap: Global, text: &[u8]) -> Result<Tree, Trouble> {
     if text.len() > 512 {
-        return Ok(Err(refusal(30, 512)));
+        return Err(Trouble::Refused(refusal(30, 512)));
     }
     let mut builder = Builder {
-        nodes: Vec::new(heap),
+        heap,
         outer: Vec::new(heap),
-        level: NEW_LEVEL,
+        level: Level::default(),
         awaits: Awaits::Atom,
         names: 0,
     };
-    let mut from = 0;
-    for _ in 0..=text.len() {
-        let at = spaces_end(text, from);
-        let end = token_end(text, at);
-        let token = match token_at(text, at, end) {
-            Ok(token) => token,
-            Err(verdict) => return Ok(Err(verdict)),
-        };
-        if let Some(number) = builder.fault(token) {
-            return Ok(Err(refusal(number, at)));
+    let mut at = 0usize;
+    for part in text.chunk_by(|one, next| one.is_ascii_lowercase() && next.is_ascii_lowercase()) {
+        if part != b" ".as_slice() {
+            let token = token_of(part, at)?;
+            builder.check(token, at)?;
+            builder.take(token)?;
         }
-        if let Token::End = token {
-            break;
-        }
-        builder.take(token)?;
-        from = end;
+        at = at.saturating_add(part.len());
     }
-    builder.end_sequence()?;
-    let whole = builder.level.alternatives.unwrap_or(0);
-    Ok(Ok(Tree {
-        nodes: builder.nodes,
-        whole,
-    }))
+    builder.finish(at)
 }
 
 fn refusal(number: u8, place: usize) -> Verdict {
@@ -125,146 +129,97 @@ fn refusal(number: u8, place: usize) -> Verdict {
     }
 }
 
-// The first place from there on that has no space.
-fn spaces_end(text: &[u8], from: usize) -> usize {
-    for at in from..text.len() {
-        if text[at] != b' ' {
-            return at;
-        }
-    }
-    text.len()
-}
-
-// The end of the token that begins there: a name goes on while there are small letters.
-fn token_end(text: &[u8], from: usize) -> usize {
-    for at in from..text.len() {
-        if !text[at].is_ascii_lowercase() {
-            return if at == from { at + 1 } else { at };
-        }
-    }
-    text.len()
-}
-
-fn token_at(text: &[u8], at: usize, end: usize) -> Result<Token, Verdict> {
-    let Some(first) = text.get(at) else {
-        return Ok(Token::End);
-    };
-    match *first {
-        b'A'..=b'H' => Ok(Token::Letter(*first - b'A' + 1)),
-        b'^' => Ok(Token::Caret),
-        b'|' => Ok(Token::Bar),
-        b'*' => Ok(Token::Star),
-        b'+' => Ok(Token::Plus),
-        b'?' => Ok(Token::Maybe),
-        b'(' => Ok(Token::Open),
-        b')' => Ok(Token::Close),
-        b'a'..=b'z' => match text.get(at..end) {
-            Some(name) => name_token(name, at),
-            None => Err(refusal(32, at)),
-        },
+// A token is a run of small letters or one other byte.
+// no `TryFrom`: the fault has the place of the token
+fn token_of(part: &[u8], at: usize) -> Result<Token, Verdict> {
+    match part {
+        [letter @ b'A'..=b'H'] => Ok(Token::Letter(*letter - b'A' + 1)),
+        b"^" => Ok(Token::Caret),
+        b"|" => Ok(Token::Bar),
+        b"*" => Ok(Token::Repeat(Repeat::Star)),
+        b"+" => Ok(Token::Repeat(Repeat::Plus)),
+        b"?" => Ok(Token::Repeat(Repeat::Maybe)),
+        b"(" => Ok(Token::Open),
+        b")" => Ok(Token::Close),
+        [b'a'..=b'z', ..] => Word::read(part).map(Token::Word).ok_or(refusal(32, at)),
         _ => Err(refusal(31, at)),
     }
 }
 
-fn name_token(name: &[u8], at: usize) -> Result<Token, Verdict> {
-    match name {
-        b"any" => Ok(Token::Name(Fits::Any)),
-        b"empty" => Ok(Token::Empty),
-        b"free" => Ok(Token::Name(Fits::Kind(0))),
-        b"badge" => Ok(Token::Name(Fits::Kind(1))),
-        b"pin" => Ok(Token::Name(Fits::Kind(2))),
-        b"turn" => Ok(Token::Name(Fits::Kind(3))),
-        b"lift" => Ok(Token::Name(Fits::Kind(4))),
-        b"fire" => Ok(Token::Name(Fits::Kind(5))),
-        b"dock" => Ok(Token::Name(Fits::Kind(6))),
-        b"stair" => Ok(Token::Name(Fits::Kind(7))),
-        _ => Err(refusal(32, at)),
+// A part behind what stands before it, if anything does.
+fn joined(heap: Global, before: Option<Tree>, joint: Joint, part: Tree) -> Result<Tree, Trouble> {
+    match before {
+        Some(before) => Ok(Tree::Joined(joint, Box::new(heap, before)?, Box::new(heap, part)?)),
+        None => Ok(part),
     }
 }
 
 impl Builder {
-    // The number of the fault of a token that cannot be taken.
-    fn fault(&self, token: Token) -> Option<u8> {
-        if !self.may_stand(token) {
-            return Some(33);
-        }
+    // The fault of a token that cannot be taken.
+    fn check(&self, token: Token, at: usize) -> Result<(), Verdict> {
         match token {
-            Token::Name(_) if self.names >= 31 => Some(34),
-            Token::Open if self.outer.len() >= 16 => Some(35),
-            _ => None,
+            _ if !self.may_stand(token) => Err(refusal(33, at)),
+            Token::Word(Word::Passage(_)) if self.names >= 31 => Err(refusal(34, at)),
+            Token::Open if self.outer.len() >= 16 => Err(refusal(35, at)),
+            _ => Ok(()),
         }
     }
 
     fn may_stand(&self, token: Token) -> bool {
-        let behind_item = match self.awaits {
-            Awaits::Atom | Awaits::Letter => false,
-            _ => true,
-        };
-        let behind_atom = match self.awaits {
-            Awaits::Caret | Awaits::Repetition => true,
-            _ => false,
-        };
         match token {
-            Token::Name(_) | Token::Empty | Token::Open => !matches!(self.awaits, Awaits::Letter),
+            Token::Word(_) | Token::Open => !matches!(self.awaits, Awaits::Letter),
             Token::Letter(_) => matches!(self.awaits, Awaits::Letter),
             Token::Caret => matches!(self.awaits, Awaits::Caret),
-            Token::Star | Token::Plus | Token::Maybe => behind_atom,
-            Token::Bar => behind_item,
-            Token::Close => behind_item && !self.outer.is_empty(),
-            Token::End => behind_item && self.outer.is_empty(),
+            Token::Repeat(_) => matches!(self.awaits, Awaits::Caret | Awaits::Repetition),
+            Token::Bar => self.is_behind_item(),
+            Token::Close => self.is_behind_item() && !self.outer.is_empty(),
         }
+    }
+
+    fn is_behind_item(&self) -> bool {
+        !matches!(self.awaits, Awaits::Atom | Awaits::Letter)
     }
 
     fn take(&mut self, token: Token) -> Result<(), Trouble> {
         match token {
-            Token::Empty => self.take_atom(Node::Empty, Awaits::Repetition),
-            Token::Name(fits) => {
+            Token::Word(Word::Empty) => self.take_atom(Tree::Empty, Awaits::Repetition),
+            Token::Word(Word::Passage(kind)) => {
                 self.names = self.names.saturating_add(1);
-                self.take_atom(Node::Name(fits, 0), Awaits::Caret)
+                self.take_atom(Tree::Name(Name { kind, mark: 0 }), Awaits::Caret)
             }
             Token::Caret => {
                 self.awaits = Awaits::Letter;
                 Ok(())
             }
-            Token::Letter(mark) => self.mark_last(mark),
-            Token::Star | Token::Plus | Token::Maybe => self.take_repetition(token),
-            Token::Bar | Token::End => self.end_sequence(),
+            Token::Letter(mark) => {
+                self.mark_last(mark);
+                Ok(())
+            }
+            Token::Repeat(repeat) => self.take_repetition(repeat),
+            Token::Bar => self.end_sequence(),
             Token::Open => self.open_level(),
             Token::Close => self.close_level(),
         }
     }
 
-    // A new node, and its place.
-    fn add(&mut self, node: Node) -> Result<usize, Trouble> {
-        let place = self.nodes.len();
-        self.nodes.push(node)?;
-        Ok(place)
-    }
-
-    fn take_atom(&mut self, node: Node, awaits: Awaits) -> Result<(), Trouble> {
+    fn take_atom(&mut self, atom: Tree, awaits: Awaits) -> Result<(), Trouble> {
         self.end_item()?;
-        self.level.item = Some(self.add(node)?);
+        self.level.item = Some(atom);
         self.awaits = awaits;
         Ok(())
     }
 
-    // A letter behind a name: the name is the last node.
-    fn mark_last(&mut self, mark: u8) -> Result<(), Trouble> {
-        if let Some(Node::Name(fits, _)) = self.nodes.pop() {
-            self.nodes.push(Node::Name(fits, mark))?;
+    // A letter behind a name: the name is the last item.
+    fn mark_last(&mut self, mark: u8) {
+        if let Some(Tree::Name(name)) = &mut self.level.item {
+            name.mark = mark;
         }
         self.awaits = Awaits::Repetition;
-        Ok(())
     }
 
-    fn take_repetition(&mut self, token: Token) -> Result<(), Trouble> {
-        if let Some(item) = self.level.item {
-            let node = match token {
-                Token::Star => Node::Star(item),
-                Token::Plus => Node::Plus(item),
-                _ => Node::Maybe(item),
-            };
-            self.level.item = Some(self.add(node)?);
+    fn take_repetition(&mut self, repeat: Repeat) -> Result<(), Trouble> {
+        if let Some(item) = self.level.item.take() {
+            self.level.item = Some(Tree::Repeated(repeat, Box::new(self.heap, item)?));
         }
         self.awaits = Awaits::More;
         Ok(())
@@ -272,46 +227,48 @@ impl Builder {
 
     // The item, if any, ends the sequence so far.
     fn end_item(&mut self) -> Result<(), Trouble> {
-        if let Some(item) = self.level.item {
-            self.level.sequence = match self.level.sequence {
-                Some(before) => Some(self.add(Node::Then(before, item))?),
-                None => Some(item),
-            };
+        if let Some(item) = self.level.item.take() {
+            let before = self.level.sequence.take();
+            self.level.sequence = Some(joined(self.heap, before, Joint::Then, item)?);
         }
-        self.level.item = None;
         Ok(())
     }
 
     // The sequence is one more alternative.
     fn end_sequence(&mut self) -> Result<(), Trouble> {
         self.end_item()?;
-        if let Some(sequence) = self.level.sequence {
-            self.level.alternatives = match self.level.alternatives {
-                Some(before) => Some(self.add(Node::Or(before, sequence))?),
-                None => Some(sequence),
-            };
+        if let Some(sequence) = self.level.sequence.take() {
+            let before = self.level.alternatives.take();
+            self.level.alternatives = Some(joined(self.heap, before, Joint::Or, sequence)?);
         }
-        self.level.sequence = None;
         self.awaits = Awaits::Atom;
         Ok(())
     }
 
     fn open_level(&mut self) -> Result<(), Trouble> {
         self.end_item()?;
-        self.outer.push(self.level)?;
-        self.level = NEW_LEVEL;
+        self.outer.push(mem::take(&mut self.level))?;
         self.awaits = Awaits::Atom;
         Ok(())
     }
 
     fn close_level(&mut self) -> Result<(), Trouble> {
         self.end_sequence()?;
-        let inner = self.level.alternatives;
+        let inner = self.level.alternatives.take();
         if let Some(level) = self.outer.pop() {
             self.level = level;
             self.level.item = inner;
         }
         self.awaits = Awaits::Repetition;
         Ok(())
+    }
+
+    // The whole pattern, where the text may end.
+    fn finish(mut self, at: usize) -> Result<Tree, Trouble> {
+        if !self.is_behind_item() || !self.outer.is_empty() {
+            return Err(Trouble::Refused(refusal(33, at)));
+        }
+        self.end_sequence()?;
+        Ok(self.level.alternatives.take().unwrap_or(Tree::Empty))
     }
 }

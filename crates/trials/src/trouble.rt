@@ -14,10 +14,15 @@ pub enum Trouble {
     Usage,
     /// standard output failed
     Output(io::Error),
+    /// a text, a floor or a call is refused
+    Refused(Verdict),
     /// lister and library answer a call in different ways
     Different(Difference),
     /// they find different faults with a pattern or a floor
-    Unlike(Option<Verdict>, Option<Verdict>),
+    Unlike {
+        expected: Option<Verdict>,
+        got: Option<Verdict>,
+    },
 }
 
 impl From<AllocError> for Trouble {
@@ -35,5 +40,11 @@ impl<T: Drop> From<AllocFailed<T>> for Trouble {
 impl From<io::Error> for Trouble {
     fn from(error: io::Error) -> Trouble {
         Trouble::Output(error)
+    }
+}
+
+impl From<Verdict> for Trouble {
+    fn from(verdict: Verdict) -> Trouble {
+        Trouble::Refused(verdict)
     }
 }
