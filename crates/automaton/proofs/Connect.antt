@@ -6,7 +6,7 @@ use Rattle.model.specs.Patterns.{Letter}
 use Rattle.model.specs.Records.{mark_word}
 use Rattle.automaton.specs.Readings.{Pair, Word, Reads}
 use Rattle.automaton.specs.Run.{Edges, In, Same, then_frag, or_frag, star_frag, Stepped}
-use Rattle.automaton.specs.Tables.{edges, at, frag, Compiled, Extends, Built, FitAt, InTurn, Either}
+use Rattle.automaton.specs.Tables.{edges, at, frag, Compiled, Extends, Built, FitAt, InTurn, Either, Within}
 use Rattle.automaton.specs.declared.Automaton.{Automaton}
 use Rattle.automaton.specs.declared.Fragment.{Fragment}
 use Rattle.automaton.proofs.Glushkov.{move, means_seq, means_alt, means_star, means_plus, means_name, reword, recognised, started}
@@ -51,19 +51,19 @@ pub either_built : (a : Automaton) (f g r : Fragment) → Same (frag r) (or_frag
 either_built a f g r same lo mid hi p q h k m n = move (means_alt (at a) h k m n) (λ s x i. same_in) (flip same.null) (λ s. flip (same.first s)) (λ s. flip (same.last s)) (λ s t i. same_in)
 
 -- what `name` does to the tables
-pub name_built : (a b : Automaton) (label : Label) (mark r0 : ℕ) (m : Option Letter) → mark_word m ≡ mark → r0 ≡ 2 ^ a.count → ((q : ℕ) → edges b a.count q → ⊥)
+pub name_built : (a b : Automaton) → Within a → (label : Label) (mark r0 : ℕ) (m : Option Letter) → mark_word m ≡ mark → r0 ≡ 2 ^ a.count → ((q : ℕ) → edges b a.count q → ⊥)
     → ((s : ℕ) → s < a.count → get_or b.follow s 0 ≡ get_or a.follow s 0)
     → ((k q : ℕ) → FitAt b.fits b.any k q ↔ (FitAt a.fits a.any k q ⊎ ((q ≡ a.count) × Fits label k)))
     → ((k q : ℕ) → Has (get_or b.marked k 0) q ↔ (Has (get_or a.marked k 0) q ⊎ ((q ≡ a.count) × (k ≡ mark))))
     → Built a b (record { nullable = false; first = r0; last = r0 }) a.count (a.count + 1) (name label m)
-name_built a b label mark r0 m em er none old hf hm = record { compiled = move (reword words (means_name (at b) (edges b) a.count none)) (λ s x i. same_in) (absurd, λ e. absurd (cc)) bits bits (λ s t i. same_in); kept = record { rows = rows; ats = ats } }
+name_built a b w label mark r0 m em er none old hf hm = record { compiled = move (reword words (means_name (at b) (edges b) a.count none)) (λ s x i. same_in) (absurd, λ e. absurd (cc)) bits bits (λ s t i. same_in); kept = record { rows = rows; ats = ats } }
   where
     bits : (q : ℕ) → (q ≡ a.count) ↔ Has r0 q
     bits q = rw er (flip (has_one a.count q))
 
     words : (u : List Pair) → ((x : Pair) × (u ≡ x ∷ []) × at b a.count x) ↔ Reads (name label m) u
     words u = (
-      λ (x, e, (f, k)). (x, e, grind (arith, (hf x.0 a.count).0 f, a.fitting x.0 a.count), grind (arith, (hm x.1 a.count).0 k, a.marking x.1 a.count, em)),
+      λ (x, e, (f, k)). (x, e, grind (arith, (hf x.0 a.count).0 f, w.fits x.0 a.count), grind (arith, (hm x.1 a.count).0 k, w.marked x.1 a.count, em)),
       λ (x, e, f, k). (x, e, ((hf x.0 a.count).1 (inr (refl, f)), (hm x.1 a.count).1 (inr (refl, k ∙ em)))),
     )
 
@@ -74,26 +74,26 @@ name_built a b label mark r0 m em er none old hf hm = record { compiled = move (
     ats q x l = grind (arith, hf x.0 q, hm x.1 q)
 
 -- the new position is below the new count
-pub name_fits : (a : Automaton) (label : Label) (fits : List ℕ) (any : ℕ) → ((k q : ℕ) → FitAt fits any k q ↔ (FitAt a.fits a.any k q ⊎ ((q ≡ a.count) × Fits label k)))
+pub name_fits : (a : Automaton) → Within a → (label : Label) (fits : List ℕ) (any : ℕ) → ((k q : ℕ) → FitAt fits any k q ↔ (FitAt a.fits a.any k q ⊎ ((q ≡ a.count) × Fits label k)))
     → (k q : ℕ) → FitAt fits any k q → q < a.count + 1
-name_fits a label fits any h k q x = grind (arith, (h k q).0 x, a.fitting k q)
+name_fits a w label fits any h k q x = grind (arith, (h k q).0 x, w.fits k q)
 
-pub name_marks : (a : Automaton) (mark : ℕ) (marked : List ℕ) → ((k q : ℕ) → Has (get_or marked k 0) q ↔ (Has (get_or a.marked k 0) q ⊎ ((q ≡ a.count) × (k ≡ mark))))
+pub name_marks : (a : Automaton) → Within a → (mark : ℕ) (marked : List ℕ) → ((k q : ℕ) → Has (get_or marked k 0) q ↔ (Has (get_or a.marked k 0) q ⊎ ((q ≡ a.count) × (k ≡ mark))))
     → (k q : ℕ) → Has (get_or marked k 0) q → q < a.count + 1
-name_marks a mark marked h k q x = grind (arith, (h k q).0 x, a.marking k q)
+name_marks a w mark marked h k q x = grind (arith, (h k q).0 x, w.marked k q)
 
 -- what `finish` does to the tables
-module _ (a : Automaton) (f : Fragment) (t : ℕ) where
+module _ (a : Automaton) (f : Fragment) (t : ℕ) (few : a.count ≤ 31) where
   -- which state follows which
   abbrev ends_edges : Edges
   ends_edges s q = Has (get_or (set a.follow 31 f.first) s 0) q
 
   pub finish_recognises : 31 < length a.follow → ((q : ℕ) → Has t q ↔ ((f.nullable ≡ true) × Has (2 ^ 31) q)) → (p : Tree) → Compiled a f 0 a.count p
       → (w : Word) → ((q : ℕ) × Stepped (at a) ends_edges (λ s. s ≡ 31) w q × Has (bit_or f.last t) q) ↔ Reads p w
-  finish_recognises lt ht p m = recognised (at a) ends_edges (Has (bit_or f.last t)) 31 (Reads p) (started {E' = ends_edges} 31 (Has (bit_or f.last t)) m (λ i. omega (arith, a.few)) rows first accepts)
+  finish_recognises lt ht p m = recognised (at a) ends_edges (Has (bit_or f.last t)) 31 (Reads p) (started {E' = ends_edges} 31 (Has (bit_or f.last t)) m (λ i. omega (arith, few)) rows first accepts)
     where
       rows : (s q : ℕ) → In 0 a.count s → edges a s q ↔ ends_edges s q
-      rows s q i = let ne : s ≢ 31 = omega (arith, a.few) in rw get_or-set_other same_in
+      rows s q i = let ne : s ≢ 31 = omega (arith, few) in rw get_or-set_other same_in
 
       first : (q : ℕ) → ends_edges 31 q ↔ Has f.first q
       first q = rw get_or-set_same same_in

@@ -20,9 +20,8 @@ use model::Label;
 const START: u32 = 1 << 31;
 
 /// The tables: `follow[s]` has the positions that may come after the state s, `fits[k]` those of the kind k, `any` those
-/// of every kind, `marked[m]` those with the mark m, and `accept` the states in which a pattern may end. The start state
-/// is no position, and only the positions below the count fit anything. The rows lie in arrays, since there is no heap
-/// below the programs.
+/// of every kind, `marked[m]` those with the mark m, and `accept` the states in which a pattern may end. The rows
+/// lie in arrays, since there is no heap below the programs.
 #[derive(Clone, Copy)]
 pub struct Automaton {
     pub count: usize,
@@ -31,9 +30,6 @@ pub struct Automaton {
     pub any: u32,
     pub marked: [u32; 9],
     pub accept: u32,
-    pub ghost few: { count ≤ 31 },
-    pub ghost fitting: { (k q : ℕ) → FitAt fits any k q → q < count },
-    pub ghost marking: { (k q : ℕ) → Has (slice_index marked k) q → q < count },
 }
 
 /// A part of a pattern: whether it reads nothing, and the positions with which it can begin and end.
@@ -107,11 +103,12 @@ impl Fragment {
 
 impl Automaton {
     ghost use Rattle.automaton.specs.Step.{stepped};
-    ghost use Rattle.automaton.specs.Tables.{Moves, Holds, Stands, Compiled, Built, Recognises, Keeps, InTurn, Either};
+    ghost use Rattle.automaton.specs.Tables.{Moves, Holds, Stands, Compiled, Built, Recognises, Keeps, InTurn, Either, Within};
 
     /// An automaton without positions.
     pub fn new() -> Automaton
-        ensures { result.count ≡ 0 }
+        ensures none { result.count ≡ 0 }
+        ensures within { Within result }
     {
         Automaton {
             count: 0,
@@ -128,7 +125,9 @@ impl Automaton {
         requires room { self.old.count < 31 }
         requires marks { mark < 9 }
         requires known { Known label }
+        requires within { Within self.old }
         ensures count { self.new.count ≡ self.old.count + 1 }
+        ensures within { Within self.new }
         ensures built { Built self.old self.new result self.old.count (self.old.count + 1) (one_name label (letter mark)) }
     {
         let p = self.count;
@@ -202,8 +201,10 @@ impl Automaton {
         }
     }
 
-    /// The whole pattern is the fragment: the start state goes before its first positions.
+    /// The whole pattern is the fragment: the start state goes before its first positions. The caller has at most 31
+    /// positions, so that the start state is none of them.
     pub fn finish(&mut self, f: Fragment)
+        requires { self.old.count ≤ 31 }
         ensures { (p : Tree) → Compiled self.old f 0 self.old.count p → Recognises self.new p }
     {
         self.follow[31] = f.first;

@@ -82,8 +82,7 @@ fn write_answer<P: Plan>(
 }
 
 /// Lists the answers to the question of the options, and says on standard error what it came to.
-pub(crate) fn list(rt: &HostRuntime, options: Options) -> Result<(), Problem> {
-    let mut options = options;
+pub(crate) fn list(rt: &HostRuntime, mut options: Options) -> Result<(), Problem> {
     let question = options.question(rt)?;
     let (form, top) = (options.form, options.top);
     let question = &question;
@@ -104,8 +103,7 @@ pub(crate) fn list(rt: &HostRuntime, options: Options) -> Result<(), Problem> {
 const RECORD: &str = "a record is numbers from 0 to 65535 with spaces between";
 
 /// Says whether the record behind the pattern is one of an answer.
-pub(crate) fn check(rt: &HostRuntime, options: Options) -> Result<(), Problem> {
-    let mut options = options;
+pub(crate) fn check(rt: &HostRuntime, mut options: Options) -> Result<(), Problem> {
     let rule = options.rule()?;
     let ends = options.ends()?;
     let record = options.last_word()?;

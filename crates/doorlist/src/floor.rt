@@ -76,8 +76,7 @@ fn describe_plan<P: Plan + Drop>(
 }
 
 /// Prints the floor that the options name and, where passages are shut, what changes.
-pub(crate) fn describe(rt: &HostRuntime, options: Options) -> Result<(), Problem> {
-    let mut options = options;
+pub(crate) fn describe(rt: &HostRuntime, mut options: Options) -> Result<(), Problem> {
     let source = options.source()?;
     Floor::open(rt, source)?.describe(rt, options.shut)
 }

@@ -48,17 +48,15 @@ fn run(rt: &HostRuntime) -> Result<(), Problem> {
     carry_out(rt, command, words)
 }
 
-fn read_pattern(rt: &HostRuntime, words: Args) -> Result<(), Problem> {
-    let mut words = words;
+fn read_pattern(rt: &HostRuntime, mut words: Args) -> Result<(), Problem> {
     match (words.next(), words.next()) {
         (Some(text), None) => describe_pattern(rt, text.as_str()),
         _ => Err(Problem::Usage(PATTERN)),
     }
 }
 
-fn carry_out(rt: &HostRuntime, command: Command, words: Args) -> Result<(), Problem> {
+fn carry_out(rt: &HostRuntime, command: Command, mut words: Args) -> Result<(), Problem> {
     let heap = rt.alloc();
-    let mut words = words;
     let left = words
         .by_ref()
         .take_while(|word| word.as_str() != "--")

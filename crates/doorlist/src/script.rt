@@ -8,8 +8,7 @@ use std::alloc::Global;
 use std::{fmt, fs};
 
 /// Makes the calls of the script behind the pattern, and prints what they reply.
-pub(crate) fn run_script(rt: &HostRuntime, options: Options) -> Result<(), Problem> {
-    let mut options = options;
+pub(crate) fn run_script(rt: &HostRuntime, mut options: Options) -> Result<(), Problem> {
     let rule = options.rule()?;
     let path = options.last_word()?;
     let script = fs::read_to_string(rt, path.as_str()).map_err(|error| Problem::Unreadable(

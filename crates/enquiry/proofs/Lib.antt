@@ -4,3 +4,4 @@ pub mod Cursors
 pub mod Deepen
 pub mod Ways
 pub mod Judged
+pub mod Chunks

@@ -1,5 +1,5 @@
 -- The walk along the words of a record.
-use Rattle.std.proofs.Common.{◌≡◌, ℕ, suc, ◌+◌, ◌*◌, ◌<◌, ◌≤◌, true, false, List, [], ◌∷◌, ◌++◌, length, get_or, drop, Some, None, Option, sym, refl, ap, ◌∙◌, subst, ap₂, arith}
+use Rattle.std.proofs.Common.{◌≡◌, ℕ, suc, ◌+◌, ◌*◌, ◌<◌, ◌≤◌, Bool, true, false, List, [], ◌∷◌, ◌++◌, length, get_or, drop, Some, None, Option, sym, refl, ap, ◌∙◌, subst, ap₂, arith}
 use Rattle.model.specs.Plans.{PlanMeaning}
 use Rattle.model.specs.Rules.{RuleMeaning}
 use Rattle.model.specs.Records.{Line, words, line_words, mark_word}
@@ -129,6 +129,19 @@ module _ (pl : PlanMeaning) (ru : RuleMeaning) (a : Automaton) (target most z : 
   pub stuck : (s e : Track) (i : ℕ) → i < get_or ws 0 0 → 2 + 3 * get_or ws 0 0 ≤ length ws → OnWay pl ru a target most z ws s i →
       Trodden (space_of pl ru a target most) s (get_or ws (2 + 3 * i) 0) (get_or ws (3 + 3 * i) 0) (get_or ws (4 + 3 * i) 0) false e → No
   stuck s e i l k o t ls rest f m h = let n = next_line rest s i o.long l k (o.every ls rest f m h) in t n.mask n.reaches
+
+  -- the same of the words in a step's three places
+  module _ (p y m : ℕ) (i : ℕ) (at : p ≡ get_or ws (2 + 3 * i) 0) (reached : y ≡ get_or ws (3 + 3 * i) 0) (marked : m ≡ get_or ws (4 + 3 * i) 0) where
+    read_off : (s e : Track) (b : Bool) → Trodden (space_of pl ru a target most) s p y m b e → Trodden (space_of pl ru a target most) s (get_or ws (2 + 3 * i) 0) (get_or ws (3 + 3 * i) 0) (get_or ws (4 + 3 * i) 0) b e
+    read_off s e b = subst (λ (x : ℕ). Trodden (space_of pl ru a target most) s p y m b e → Trodden (space_of pl ru a target most) s x (get_or ws (3 + 3 * i) 0) (get_or ws (4 + 3 * i) 0) b e) at
+        (subst (λ (x : ℕ). Trodden (space_of pl ru a target most) s p y m b e → Trodden (space_of pl ru a target most) s p x (get_or ws (4 + 3 * i) 0) b e) reached
+        (subst (λ (x : ℕ). Trodden (space_of pl ru a target most) s p y m b e → Trodden (space_of pl ru a target most) s p y x b e) marked (λ t. t)))
+
+    pub goes_on_by : (s e : Track) → i < get_or ws 0 0 → 2 + 3 * get_or ws 0 0 ≤ length ws → OnWay pl ru a target most z ws s i → Trodden (space_of pl ru a target most) s p y m true e → OnWay pl ru a target most z ws e (i + 1)
+    goes_on_by s e l k o t = goes_on s e i l k o (read_off s e true t)
+
+    pub stuck_by : (s e : Track) → i < get_or ws 0 0 → 2 + 3 * get_or ws 0 0 ≤ length ws → OnWay pl ru a target most z ws s i → Trodden (space_of pl ru a target most) s p y m false e → No
+    stuck_by s e l k o t = stuck s e i l k o (read_off s e false t)
 
   pub elsewhere : (get_or ws 1 0 ≡ z → ⊥) → No
   elsewhere n ls rest f m h = n (ap (λ (u : List ℕ). get_or u 1 0) h)

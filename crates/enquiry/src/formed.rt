@@ -16,9 +16,9 @@ pub(crate) fn malformed(words: &[u16]) -> Option<usize>
     if words.len() < 2 + 3 * n {
         return Some(words.len());
     }
-    // by place, since the place is what a fault tells
-    for i in 0..n {
-        if words[4 + 3 * i] > 8 {
+    let (steps, _) = words[2..2 + 3 * n].as_chunks::<3>();
+    for (i, [_, _, mark]) in steps.iter().enumerate() {
+        if *mark > 8 {
             return Some(4 + 3 * i);
         }
     }

@@ -8,7 +8,8 @@ use plan::Plan;
 use route::{Route, Rule};
 use search::{Cursor, Search};
 
-// One more step, if it may be added and reaches that zone.
+// One more step, if it may be added and reaches that zone: the route is changed in place, and no value goes with the flag.
+// `push` has room, since the route is shorter than the cursor's greatest length.
 fn tread<P: Plan, R: Rule>(
     search: &Search<P, R>,
     cursor: &Cursor,
@@ -46,16 +47,10 @@ pub(crate) fn walk<P: Plan, R: Rule>(
     if words[1] != route.start as u16 {
         return None;
     }
-    let n = words[0] as usize;
-    for i in 0..n {
-        if !tread(
-            search,
-            cursor,
-            &mut route,
-            words[2 + 3 * i],
-            words[3 + 3 * i],
-            words[4 + 3 * i],
-        ) {
+    let count = words[0] as usize;
+    let (steps, _) = words[2..2 + 3 * count].as_chunks::<3>();
+    for [passage, zone, mark] in steps {
+        if !tread(search, cursor, &mut route, *passage, *zone, *mark) {
             return None;
         }
     }

@@ -13,6 +13,7 @@ pub(crate) fn write_record(route: &Route, words: &mut [u16]) -> usize
 {
     words[0] = route.len as u16;
     words[1] = route.start as u16;
+    // by place: nothing is known of what a slice ends as where its chunks are written
     for i in 0..route.len {
         let at = 2 + 3 * i;
         words[at] = route.passages[i] as u16;

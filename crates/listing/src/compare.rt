@@ -41,6 +41,7 @@ fn agree<P: Plan, R: Rule, Q: Plan, S: Rule>(
 {
     let mut one = [0u16; 770];
     let mut other = [0u16; 770];
+    // no iterator: each record is lent from a buffer
     while let Some(n) = following(left, &mut one) {
         let Some(m) = following(right, &mut other) else {
             return false;

@@ -42,6 +42,7 @@ pub fn outline(heap: Global, text: &[u8]) -> Result<String, AllocError> {
             shown.push_str(" ")?;
         }
         if let Symbol::Name(_) = symbol {
+            // a text that is too long to be a pattern may have more names than the number holds
             names = names.wrapping_add(1);
             write!(shown, "{names}:")?;
         }

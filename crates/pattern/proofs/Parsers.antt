@@ -1,10 +1,10 @@
 -- What each turn of the parser does to what it shows.
-use Rattle.std.proofs.Common.{◌≡◌, ℕ, suc, ◌+◌, ◌<◌, ◌≤◌, ◌↔◌, List, [], ◌∷◌, length, get_or, Some, None, Option, sym, refl, ap, ◌∙◌, subst, add-one, arith, Ok, Err, Result, IsErrAnd}
+use Rattle.std.proofs.Common.{◌≡◌, ℕ, suc, ◌+◌, ◌<◌, ◌≤◌, ◌↔◌, ◌⊎◌, inl, inr, List, [], ◌∷◌, length, get_or, Some, None, Option, sym, refl, ap, ◌∙◌, subst, add-one, arith, Ok, Err, Result, IsErrAnd}
 use Rattle.fault.specs.declared.PatternFault.{PatternFault}
 use Rattle.model.specs.Patterns.{Tree, name}
 use Rattle.model.specs.Records.{letter}
 use Rattle.model.specs.declared.Label.{Label}
-use Rattle.automaton.specs.Tables.{Compiled, Extends, Built, Keeps, InTurn, Either}
+use Rattle.automaton.specs.Tables.{Compiled, Extends, Built, Keeps, InTurn, Either, Within}
 use Rattle.automaton.specs.declared.Automaton.{Automaton}
 use Rattle.automaton.specs.declared.Fragment.{Fragment}
 use Rattle.automaton.proofs.Glushkov.{move}
@@ -13,7 +13,7 @@ use Rattle.grammar.specs.Machine as machine
 use Rattle.grammar.specs.Machine.{joined, or_else, ready, begin, begun, opened, barred, closed, times_by, careted, lettered, in_mode, finished, step_at, finish}
 use Rattle.grammar.specs.declared.Symbol.TheVariants as symbol
 use Rattle.grammar.specs.declared.Times.{Times}
-use Rattle.pattern.specs.Parts.{Held, no_part, a_part, Last, is_due, is_named, is_marking, is_atom, is_item, no_level, OpenLevels, pending, JoinedTo, Repeated}
+use Rattle.pattern.specs.Parts.{Held, no_part, a_part, Last, is_due, is_named, is_marking, is_atom, is_item, no_level, OpenLevels, pending, Room, Added, JoinedTo, Repeated}
 use Rattle.pattern.specs.Parsing.{Shown, Shows, LetGo, Whole, Goes}
 use Rattle.pattern.specs.Stack.{Pushed, Popped}
 use Rattle.pattern.specs.declared.levels.Level.{Level}
@@ -61,6 +61,40 @@ levels_same a hi ls ks d [] same z = z
 levels_same a hi ls ks d (machine.level b p ∷ fs) same (k, lo, mid, s, o, x, y) =
     let e : get_or ks k no_level ≡ get_or ls k no_level = same k (omega arith) in
     (k, lo, mid, s, levels_same a lo ls ks k fs (λ j l. same j (omega arith)) o, subst (λ (z : Level). Held a lo mid z.sequences b) (sym e) x, subst (λ (z : Level). Held a mid hi z.items p) (sym e) y)
+
+-- ---- the item that is read
+-- What the machine has read last is a tree, and the item reads it.
+abbrev pub Matches : Automaton → Automaton → ℕ → machine.Mode → Fragment → Type 0
+Matches a b lo m f = (t : Tree) × (ready m ≡ Some t) × (b.count ≡ a.count + pending m) × Added a b lo f t
+
+-- What the item leaves: an automaton of at most 31 positions, in which it matches what was read last.
+abbrev pub Left : Automaton → Mode → Automaton → Fragment → Type 0
+Left a mode b f = (b.count ≤ 31) × Within b × ((lo : ℕ) (m : machine.Mode) → Last a lo mode m → Matches a b lo m f)
+
+pub named_left : {a b : Automaton} {mode : Mode} {l : Label} {f : Fragment} → mode ≡ Named l → Room a mode → b.count ≡ a.count + 1 → Within b → Built a b f a.count (a.count + 1) (name l None) → Left a mode b f
+named_left {a = a} {b = b} {l = l} {f = f} is r n w h = (omega (arith, room.0), w, λ lo m k. matches lo m (subst (λ (x : Mode). Last a lo x m) is k))
+  where
+    room : Room a (Named l)
+    room = subst (λ (x : Mode). Room a x) is r
+
+    matches : (lo : ℕ) (m : machine.Mode) → Last a lo (Named l) m → Matches a b lo m f
+    matches lo m (is_named e q k) = (name l None, refl, n, record { below = omega arith; built = subst (λ (x : ℕ). Built a b f x b.count (name l None)) (sym e) (subst (λ (x : ℕ). Built a b f a.count x (name l None)) (sym n) h) })
+
+pub atom_left : {a : Automaton} {mode : Mode} {f : Fragment} → (mode ≡ Atom f) ⊎ (mode ≡ Item f) → a.count ≤ 31 → Within a → Left a mode a f
+atom_left {a = a} {mode = mode} {f = f} is few w = (few, w, λ lo m. by_mode lo m is)
+  where
+    added : {lo : ℕ} {t : Tree} → lo ≤ a.count → Compiled a f lo a.count t → Added a a lo f t
+    added {lo = lo} l h = record { below = l; built = record { compiled = h; kept = extends_self a lo } }
+
+    atom : (lo : ℕ) (m : machine.Mode) → Last a lo (Atom f) m → Matches a a lo m f
+    atom lo m (is_atom {t = t} l h) = (t, refl, omega arith, added l h)
+
+    item : (lo : ℕ) (m : machine.Mode) → Last a lo (Item f) m → Matches a a lo m f
+    item lo m (is_item {t = t} l h) = (t, refl, omega arith, added l h)
+
+    by_mode : (lo : ℕ) (m : machine.Mode) → (mode ≡ Atom f) ⊎ (mode ≡ Item f) → Last a lo mode m → Matches a a lo m f
+    by_mode lo m (inl e) k = atom lo m (subst (λ (x : Mode). Last a lo x m) e k)
+    by_mode lo m (inr e) k = item lo m (subst (λ (x : Mode). Last a lo x m) e k)
 
 pub levels_length : (a : Automaton) (hi : ℕ) (ls : List Level) (d : ℕ) (fs : List machine.Level) → OpenLevels a hi ls d fs → d ≡ length fs
 levels_length a hi ls d [] z = z.0

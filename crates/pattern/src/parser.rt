@@ -1,8 +1,8 @@
 // The parser: it takes one symbol after the other, and builds the automaton of the pattern in place.
-ghost use Rattle.std.specs.Prelude.{◌≡◌, ◌<◌, [], None as none};
+ghost use Rattle.std.specs.Prelude.{◌≡◌, ◌<◌, ◌≤◌, [], None as none};
 ghost use Rattle.grammar.specs.Machine.{due};
 ghost use Rattle.grammar.specs.declared.Symbol.TheVariants.{Name as name, Letter as letter, Caret as caret, Bar as bar, Repeat as repeat, Open as opens, Close as closes};
-ghost use Rattle.automaton.specs.Tables.{Known};
+ghost use Rattle.automaton.specs.Tables.{Known, Within};
 ghost use Rattle.pattern.specs.Parts.{Room, room_prop, Repeated, Usable};
 
 use crate::levels::{Level, Levels};
@@ -34,6 +34,8 @@ pub struct Parser {
     pub levels: Levels,
     pub level: Level,
     pub mode: Mode,
+    pub ghost few: { automaton.count ≤ 31 },
+    pub ghost within: { Within automaton },
     pub ghost room: { Room automaton mode } by { room_prop automaton mode },
 }
 

@@ -10,6 +10,7 @@ use crate::bytes::PlanFile;
 use crate::questions::Plan;
 use fault::Fault;
 
+/// A plan that was read from a file.
 // The bytes are the plan's own, at most 899: a borrowed file would ask more of callers, and there is no heap.
 #[derive(Clone, Copy)]
 pub struct FiledPlan {

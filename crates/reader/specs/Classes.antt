@@ -15,7 +15,7 @@ is_sign b = within 40 43 b || (b == 63 || (b == 94 || b == 124))
 abbrev pub class_of : ℕ → Class
 class_of b = cond (b == 32) Space (cond (within 97 122 b) Small (cond (within 65 72 b) Capital (cond (is_sign b) Sign Refused)))
 
--- The number of a class, as the table of classes has it.
+-- A number for each class, by which classes are told apart.
 abbrev pub class_number_lem : Class → ℕ
 class_number_lem Refused = 0
 class_number_lem Space = 1

@@ -2,6 +2,7 @@
 ghost use Rattle.std.specs.Prelude.{◌≡◌};
 ghost use Rattle.reader.specs.Classes.{class_of};
 
+/// What a byte can be in a pattern text.
 #[derive(Clone, Copy, PartialEq, Eq, Debug)]
 pub enum Class {
     Refused,
@@ -21,7 +22,7 @@ const AH: Class = Class::Capital;
 
 const SI: Class = Class::Sign;
 
-// A row for each sixteen bytes.
+// The class of each byte, in turn.
 static CLASSES: [Class; 256] = [
     NO, NO, NO, NO, NO, NO, NO, NO, NO, NO, NO, NO, NO, NO, NO, NO, NO, NO, NO, NO, NO, NO, NO, NO,
     NO, NO, NO, NO, NO, NO, NO, NO, SP, NO, NO, NO, NO, NO, NO, NO, SI, SI, SI, SI, NO, NO, NO, NO,

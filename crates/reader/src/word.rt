@@ -7,6 +7,7 @@ use fault::PatternFault;
 use grammar::Symbol;
 use model::Label;
 
+/// A name that a pattern may have.
 #[derive(Clone, Copy, PartialEq, Eq, Debug)]
 pub enum Word {
     Free,

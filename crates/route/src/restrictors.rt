@@ -6,6 +6,8 @@ ghost use Rattle.model.proofs.RuleLaws.{restrictors};
 use crate::Route;
 use crate::passing::Rule;
 
+// Each rule answers `greatest` itself: a default would have to be tied to the rule's meaning.
+
 /// No passage twice.
 #[derive(Clone, Copy)]
 pub struct Trail;

@@ -1,3 +1,4 @@
+//! The question of a listing, and where it stands.
 ghost use Rattle.std.specs.Prelude.{◌≤◌};
 
 use crate::progress::Progress;

@@ -1,3 +1,4 @@
+//! Where a listing stands.
 ghost use Rattle.std.specs.Prelude.{◌≡◌};
 ghost use Rattle.route.specs.Reading.{track_of};
 ghost use Rattle.search.specs.Trails.{trail};

@@ -1,3 +1,4 @@
+//! The search: one step more, the answer below a route, and the answer that comes next.
 ghost use Rattle.std.specs.Prelude.{◌≡◌, ℕ, ◌<◌, ◌≤◌, true, false};
 ghost use Rattle.route.specs.Reading.{track_of};
 ghost use Rattle.search.specs.Hunts.{space_at};
@@ -41,6 +42,7 @@ impl<P: Plan, R: Rule> Search<P, R> {
     }
 
     /// Whether the route is an answer.
+    // by the mask and not by `accepts`, since the space of a search is said by masks
     pub fn is_answer(&self, cursor: &Cursor, route: &Route) -> bool
         ensures { result ≡ (space_at P.Plan.meaning R.Rule.meaning self.now cursor.now).final (track_of route.now) }
     {
@@ -48,7 +50,7 @@ impl<P: Plan, R: Rule> Search<P, R> {
             && (route.mask(self.automaton.start()) & self.automaton.accept) != 0
     }
 
-    // The three below change the route in place and say whether it is an answer now: no value goes with the flag.
+    // The four below change the route in place and say whether it is an answer now: no value goes with the flag.
     // Passage and mark are no struct, since `seek` may start past the last passage, where there is no step.
     #[cycle(seek_step_into_try_marks)]
     fn step_into(&self, cursor: &Cursor, route: &mut Route, passage: u8, mark: u8) -> bool

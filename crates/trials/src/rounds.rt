@@ -1,4 +1,4 @@
-//! Trials of one floor each: of the examples, and of random floors.
+//! Trials of one random floor each.
 use crate::calls::Verdict;
 use crate::cases::Case;
 use crate::compare::{Tally, Task, Trial};
