@@ -11,7 +11,7 @@ def lemmas(text):
     found = {}
     for m in re.finditer(r"^( *)(?:abbrev |unfoldable )?pub (?:record |data )?([^\s({]+)((?:(?!\n *(?:\2|unfolding|pub|abbrev|module|use|--)).)*)", text, re.M | re.S):
         kind = " ".join(m[3].split())
-        found[m[2]] = re.sub(r"^: ", "", kind)[:400]
+        found[m[2]] = re.sub(r"^: ", "", kind)
     return found
 
 
