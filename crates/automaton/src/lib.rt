@@ -21,7 +21,7 @@ const START: u32 = 1 << 31;
 
 /// The tables: `follow[s]` has the positions that may come after the state s, `fits[k]` those of the kind k, `any` those
 /// of every kind, `marked[m]` those with the mark m, and `accept` the states in which a pattern may end. The rows
-/// lie in arrays, since there is no heap below the programs.
+/// lie in arrays and sets of states are masks, since there is no heap below the programs.
 #[derive(Clone, Copy)]
 pub struct Automaton {
     pub count: usize,
@@ -65,7 +65,7 @@ fn link(follow: &mut [u32; 32], from: u32, to: u32)
     }
 }
 
-// The position `p` fits the label's kinds.
+// The position `p` fits the label's kinds. Two tables are lent, and not the automaton, whose others stay.
 fn admit(fits: &mut [u32; 8], any: &mut u32, label: Label, p: usize)
     requires { (p < 31) × (Known label) }
     ensures { (k q : ℕ) → FitAt fits.new any.new k q ↔ (FitAt fits.old any.old k q ⊎ ((q ≡ p) × Fits label k)) }

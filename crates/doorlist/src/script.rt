@@ -50,6 +50,7 @@ fn read_pose(rest: &str) -> Result<Call, Misread> {
     let (start, others) = rest.split_once(' ').ok_or(Misread::Words)?;
     let (target, choice) = others.split_once(' ').ok_or(Misread::Words)?;
     let (start, target) = (start.parse::<u8>()?, target.parse::<u8>()?);
+    // No `FromStr`: `Choice` is the library's, and has these names in scripts alone.
     match choice {
         "all" => Ok(Call::Pose(start, target, Choice::All)),
         "shortest" => Ok(Call::Pose(start, target, Choice::Shortest)),

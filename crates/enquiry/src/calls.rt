@@ -14,7 +14,8 @@ use route::{Rule, length_limit};
 use search::{Cursor, Progress, Search};
 
 /// A plan, a pattern and a rule, with the question posed, if one is, and where its listing stands.
-// What it keeps is a clause and no ghost field: `Kept` gives an answer where there is one, so it is no proposition.
+// What it keeps is a clause and no ghost field: `Kept` gives an answer where there is one, so it is no proposition. The
+// clauses `same` and `refused` of its calls tell what was from what is, which no field can.
 #[derive(Drop)]
 pub struct Enquiry<P: Plan, R: Rule> {
     pub(crate) search: Search<P, R>,
@@ -93,7 +94,7 @@ impl<P: Plan, R: Rule> Enquiry<P, R> {
     }
 
     /// Writes the record of the following answer to the front of the buffer, and gives its count of words; or says
-    /// none left, and writes nothing.
+    /// none left, and writes nothing. The buffer is lent, since there is no heap here.
     pub fn next(&mut self, buffer: &mut [u16]) -> Result<Option<usize>, Fault>
         ensures relation { Promised P.Plan.meaning R.Rule.meaning self.old self.new (λ n s u. Next n s buffer.old result buffer.new u) }
         ensures same { self.new.search ≡ self.old.search }

@@ -41,6 +41,7 @@ impl Level {
     pub fn chosen(&self, automaton: &Automaton, sequence: Fragment) -> Fragment
         ensures { EitherOf automaton.now self.now.sequences sequence result }
     {
+        // By a match as `joined`, so that the two are read side by side.
         match self.sequences {
             None => sequence,
             Some(before) => automaton.either(before, sequence),

@@ -46,6 +46,7 @@ impl Plan for GridPlan {
         }
         let row = zone / columns;
         let column = zone % columns;
+        // Below 64, as every zone is; `try_from` would add a case that never comes.
         let here = zone as u8;
         match number % 4 {
             0 => (column + 1 < columns).then(|| (here, here + 1, 0)),

@@ -5,7 +5,7 @@ ghost use Rattle.plan.specs.Filed.{layered};
 
 use fault::{Fault, PlanFault};
 
-/// One bit for each passage number, set where the passage is shut.
+/// One bit for each passage number, set where the passage is shut: the 32 bytes that people hand in.
 #[derive(Clone, Copy)]
 pub struct Sheet {
     bytes: [u8; 32],

@@ -7,7 +7,7 @@ use fault::PatternFault;
 use grammar::Symbol;
 use model::Label;
 
-/// A name that a pattern may have.
+/// A name that a pattern may have. Spelling and meaning are said of names; a symbol need not be one.
 #[derive(Clone, Copy, PartialEq, Eq, Debug)]
 pub enum Word {
     Free,

@@ -1,4 +1,5 @@
-//! Random floors as plan files and grids, with passages shut.
+//! Random floors as plan files and grids, with passages shut. The heap is handed on by value and the random numbers are
+//! lent, so the two are no struct.
 use crate::cases::Source;
 use crate::floor::{Floor, Passage};
 use crate::kinds::Kind;
@@ -83,6 +84,7 @@ fn random_draft(heap: Global, random: &mut Random, kinds: Kinds) -> Result<Draft
 
 // One of the zones from the first on, in a circle.
 fn near(random: &mut Random, first: u8, used: u8, zones: u8) -> u8 {
+    // Below `zones`, so the mask takes nothing off.
     let zone = first as u16 + random.below(used) as u16;
     (zone.checked_rem(zones as u16).unwrap_or(0) & 0xff) as u8
 }
@@ -147,7 +149,7 @@ impl Draft {
         Ok(file)
     }
 
-    // How many bodies the zones before one have, the bodies being sorted.
+    // How many bodies the zones before one have, the bodies being sorted. They are at most 256, so the mask takes nothing off.
     fn bodies_before(&self, zone: u8) -> [u8; 2] {
         let count = self.bodies.partition_point(|body| body.origin < zone);
         ((count & 0xffff) as u16).to_le_bytes()

@@ -147,6 +147,7 @@ impl Bench<'_> {
         }
     }
 
+    // The trial poses its own questions, so none is posed here.
     fn run_enquiry<P: Plan + Drop, R: Rule + Drop>(self, plan: P, rule: R) -> Result<(), Trouble> {
         let mut library = Library {
             enquiry: Enquiry::new(plan, self.pattern, rule),

@@ -32,6 +32,7 @@ impl Random {
     }
 
     /// A place in a list of that length; 0 where it has none.
+    // No `Option`: the place goes to `get`, which has an answer for an empty list too.
     pub(crate) fn place(&mut self, length: usize) -> usize
         ensures { result ≤ length }
     {
@@ -46,6 +47,7 @@ impl Random {
         self.below(100) < percent
     }
 
+    // Here and in `word` the low bits are meant, so a conversion that may fail would be none.
     pub(crate) fn byte(&mut self) -> u8 {
         (self.number() & 0xff) as u8
     }

@@ -47,6 +47,7 @@ impl Listing {
         let Some(line) = self.lines.get(self.delivered) else {
             return Ok(Reply::NoneLeft);
         };
+        // `copy_from_slice` would ask for equal lengths.
         for (place, word) in buffer.iter_mut().zip(line.words.iter()) {
             *place = *word;
         }

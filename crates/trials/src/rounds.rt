@@ -40,7 +40,7 @@ impl Outcomes {
     }
 }
 
-/// The floor, text and rule that these random numbers give.
+/// The floor, text and rule that these random numbers give; each rule has one chance in three.
 pub(crate) fn random_case(heap: Global, random: &mut Random) -> Result<Case, Trouble> {
     let (source, kinds) = random_source(heap, random)?;
     let text = random_text(heap, random, kinds)?;

@@ -109,6 +109,7 @@ pub(crate) fn read(heap: Global, text: &[u8]) -> Result<Tree, Trouble> {
         awaits: Awaits::Atom,
         names: 0,
     };
+    // The parts come without their places.
     let mut at = 0usize;
     for part in text.chunk_by(|one, next| one.is_ascii_lowercase() && next.is_ascii_lowercase()) {
         if part != b" ".as_slice() {
