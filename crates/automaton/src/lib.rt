@@ -120,7 +120,8 @@ impl Automaton {
         }
     }
 
-    /// A new position, for a name. The caller, who counts the names, keeps them to 31.
+    /// A new position, for a name. Only the parser of crate pattern calls it: it refuses the name after the 31st and has
+    /// the place for that fault, so what is asked here is known there, and a second refusal would never come.
     pub fn name(&mut self, label: Label, mark: u8) -> Fragment
         requires room { self.old.count < 31 }
         requires marks { mark < 9 }
@@ -201,8 +202,8 @@ impl Automaton {
         }
     }
 
-    /// The whole pattern is the fragment: the start state goes before its first positions. The caller has at most 31
-    /// positions, so that the start state is none of them.
+    /// The whole pattern is the fragment: the start state goes before its first positions. Only the parser of crate
+    /// pattern calls it, which keeps the positions to 31, so that the start state is none of them.
     pub fn finish(&mut self, f: Fragment)
         requires { self.old.count ≤ 31 }
         ensures { (p : Tree) → Compiled self.old f 0 self.old.count p → Recognises self.new p }

@@ -180,8 +180,8 @@ impl Parser {
         Ok(())
     }
 
-    /// Takes one symbol, or says what is wrong with it. The type has more labels and letters than a text can have, so the
-    /// caller shows that this symbol has none of those.
+    /// Takes one symbol, or says what is wrong with it. Only `compile` calls it, with symbols of the reader. The type has
+    /// more labels and letters than a text can have, and no fault is for those; so this asks that the symbol be usable.
     pub fn take(&mut self, symbol: Symbol, place: usize) -> Result<(), PatternFault>
         requires { Usable symbol }
         ensures { Took self.old symbol place result self.new }
