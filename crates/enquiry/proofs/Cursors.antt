@@ -135,6 +135,13 @@ module _ (pl : PlanMeaning) (ru : RuleMeaning) (laws : KeepsLaws ru) (a : Automa
         answer = λ _. subst (λ (x : Track). (space_of pl ru a d.target d.most).final x ≡ true) (sym route_is) final;
       }
 
+-- The same of a cursor that was moved in place, with a proof of its own that it is short.
+pub moved : (pl : PlanMeaning) (ru : RuleMeaning) (a : Automaton) (Does : EnquiryMeaning → State → State → Type 0) (o : Option Cursor) (d : Cursor) (p : Progress) (s : d.most ≤ 256) →
+    Promise pl ru a o (Some (placed d p)) Does → Promise pl ru a o (Some (record { choice = d.choice; target = d.target; most = d.most; progress = p; short = s })) Does
+moved pl ru a Does o d p s h t rec k =
+    let r = h t rec k in
+    (r.0, record { start = r.1.start; longest = r.1.longest; stands = r.1.stands; answer = r.1.answer })
+
 pub cap_all : (pl : PlanMeaning) (ru : RuleMeaning) (a : Automaton) (z target most : ℕ) (ch : Choice) → ch ≡ All → most ≡ limit ru →
     (t : Tree) → Recognises a t → Capped (asked pl ru t) (record { start = z; target = target; choice = ch }) ch most
 cap_all pl ru a z target most ch e m t rec = subst (λ (k : Choice). Capped (asked pl ru t) (record { start = z; target = target; choice = k }) k most) (sym e) m

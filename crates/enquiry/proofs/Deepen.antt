@@ -1,5 +1,5 @@
 -- The least length, by searches under growing caps.
-use Rattle.std.proofs.Common.{◌≡◌, ℕ, ◌+◌, ◌<◌, ◌≤◌, true, false, [], Some, None, Option, is_some, sym, subst, arith}
+use Rattle.std.proofs.Common.{◌≡◌, ℕ, ◌+◌, ◌<◌, ◌≤◌, Bool, true, false, [], sym, subst, arith}
 use borrow.Author.Tests.{clash}
 use native.Mathlib.Decide.{dec_lt}
 use Rattle.model.specs.Plans.{PlanMeaning}
@@ -11,8 +11,7 @@ use Rattle.model.specs.Questions.{Question, Candidate}
 use Rattle.automaton.specs.Tables.{Recognises}
 use Rattle.automaton.specs.declared.Automaton.{Automaton}
 use Rattle.model.specs.declared.Choice.TheVariants.{Shortest}
-use Rattle.route.specs.declared.Route.{Route}
-use Rattle.route.specs.Reading.{track_of}
+use Rattle.route.specs.Tracks.{Track}
 use Rattle.search.specs.Spaces as tr
 use Rattle.search.specs.Listings as li
 use Rattle.search.specs.Listings.{StandingOn, route_at, Delivered}
@@ -20,8 +19,6 @@ use Rattle.route.specs.Limits.{limit}
 use Rattle.search.proofs.Follow.{answer_to}
 use Rattle.bridge.specs.Lines.{told, line_codes}
 use Rattle.search.specs.Hunts.{space_of}
-use Rattle.search.specs.Trails.{Comes}
-use Rattle.search.specs.declared.progress.Progress.TheVariants.{AtFront}
 use Rattle.bridge.proofs.Agreed.{short}
 use Rattle.enquiry.specs.Promises.{asked, Least}
 use Rattle.enquiry.proofs.Deliveries as v
@@ -38,14 +35,13 @@ module _ (pl : PlanMeaning) (ru : RuleMeaning) (laws : KeepsLaws ru) (a : Automa
   T = space_of pl ru a target most
 
   -- what the search from the start came to
-  abbrev Told : Option Route → Type 0
-  Told o = li.Standing T (route_at z []) → Comes T (AtFront z) o
+  abbrev Told : Bool → Track → Type 0
+  Told b e = li.Standing T (route_at z []) → Delivered T false (route_at z []) b e
 
-  pub found : (o : Option Route) → is_some o ≡ true → Told o → Under pl ru a z target most → (t : Tree) → Recognises a t → z < pl.zones → Least (asked pl ru t) z target most
+  pub found : (b : Bool) (e : Track) → b ≡ true → Told b e → Under pl ru a z target most → (t : Tree) → Recognises a t → z < pl.zones → Least (asked pl ru t) z target most
   unfolding Delivered
-  found None s h u t rec low = absurd (clash s)
-  found (Some r) s h u t rec low =
-      let e = track_of r in
+  found false e s h u t rec low = absurd (clash s)
+  found true e s h u t rec low =
       let d = h tt in
       let st : StandingOn T z e.steps = subst (λ (y : ℕ). StandingOn T y e.steps) d.starts d.stands in
       let f = answer_to T z e.steps [] st d.answer in (
@@ -53,10 +49,10 @@ module _ (pl : PlanMeaning) (ru : RuleMeaning) (laws : KeepsLaws ru) (a : Automa
         λ b k. (told (route_at z e.steps), v.candidate (asked pl ru t) laws a rec z target Shortest most low e.steps st f, v.kept_len (asked pl ru t) laws a rec z target Shortest most low e.steps st),
       )
 
-  pub none : (o : Option Route) → is_some o ≡ false → Told o → Under pl ru a z target most → Under pl ru a z target (most + 1)
+  pub none : (b : Bool) (e : Track) → b ≡ false → Told b e → Under pl ru a z target most → Under pl ru a z target (most + 1)
   unfolding Delivered
-  none (Some r) s h u t rec low b k = absurd (clash (sym s))
-  none None s h u t rec low b k = elim (dec_lt most (len b.route)) [
+  none true e s h u t rec low b k = absurd (clash (sym s))
+  none false e s h u t rec low b k = elim (dec_lt most (len b.route)) [
     | yes x ↦ omega arith
     | no x ↦ absurd (h tt (line_codes (record_of b).lines) (v.search_answer (asked pl ru t) laws a rec z target Shortest most low b k (omega arith)) tt)
   ]

@@ -10,7 +10,7 @@ use fault::{EnquiryFault, Fault};
 use model::Choice;
 use pattern::Pattern;
 use plan::Plan;
-use route::{Rule, length_limit};
+use route::{Route, Rule, length_limit};
 use search::{Cursor, Progress, Search};
 
 /// A plan, a pattern and a rule, with the question posed, if one is, and where its listing stands.
@@ -80,13 +80,13 @@ impl<P: Plan, R: Rule> Enquiry<P, R> {
     {
         let limit = length_limit(&self.search.rule);
         for most in 0..limit {
-            let cursor = Cursor {
+            let mut cursor = Cursor {
                 choice: Choice::Shortest,
                 target,
                 most,
                 progress: Progress::AtFront(start),
             };
-            if self.search.next_answer(&cursor).is_some() {
+            if self.search.advance(&mut cursor) {
                 return most;
             }
         }
@@ -101,17 +101,18 @@ impl<P: Plan, R: Rule> Enquiry<P, R> {
         ensures refused { IfRefused result ((self.new ≡ self.old) × (buffer.new ≡ buffer.old)) }
         ensures forward { LedForward P.Plan.meaning R.Rule.meaning self.old result self.new }
     {
-        let Some(cursor) = &self.cursor else {
+        let Some(cursor) = &mut self.cursor else {
             return Err(Fault::Enquiry(EnquiryFault::Unposed(0)));
         };
         if buffer.len() < 770 {
             return Err(Fault::Enquiry(EnquiryFault::Buffer(buffer.len())));
         }
-        let Some(route) = self.search.next_answer(cursor) else {
+        let mut route = Route::new(cursor.progress.start());
+        if !self.search.arrive(cursor, &mut route) {
             return Ok(None);
-        };
+        }
         let count = write_record(&route, buffer);
-        self.cursor = Some(cursor.with_progress(Progress::Behind(route)));
+        cursor.progress = Progress::Behind(route);
         Ok(Some(count))
     }
 

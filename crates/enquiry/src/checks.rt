@@ -31,7 +31,7 @@ impl<P: Plan, R: Rule> Enquiry<P, R> {
         ensures same { self.new.search ≡ self.old.search }
         ensures refused { IfRefused result (self.new ≡ self.old) }
     {
-        let Some(cursor) = &self.cursor else {
+        let Some(cursor) = &mut self.cursor else {
             return Err(Fault::Enquiry(EnquiryFault::Unposed(0)));
         };
         if let Some(place) = malformed(words) {
@@ -40,7 +40,7 @@ impl<P: Plan, R: Rule> Enquiry<P, R> {
         let Some(route) = walk(&self.search, cursor, words) else {
             return Err(Fault::Enquiry(EnquiryFault::NotAnswer(0)));
         };
-        self.cursor = Some(cursor.with_progress(Progress::Behind(route)));
+        cursor.progress = Progress::Behind(route);
         Ok(())
     }
 }

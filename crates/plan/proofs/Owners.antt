@@ -1,22 +1,24 @@
--- The owner of a body, as the search from the last zone finds it.
-use Rattle.std.proofs.Common.{◌≡◌, ℕ, zero, suc, ◌+◌, ◌<◌, ◌≤◌, cond, leb, List, Some, None, Option, refl, ap, ◌∙◌, subst, arith, add-one, leb-true, leb-false, lt-ltb, ⊎_elim, eq-or-lt_of_le}
-use Rattle.std.specs.Option.{unwrap_or}
-use Rattle.plan.specs.Filed.{zone_count_of, count_of, entry_of, start_of, owner_below}
-use Rattle.plan.specs.FiledFacts.{owner_zero, owner_here, owner_past}
-use Rattle.plan.proofs.Ranges.{IsLastPassing}
+-- The owner of a body lies where a search that halves the zones looks for it.
+use Rattle.std.proofs.Common.{ℕ, ◌<◌, ◌≤◌, List, arith}
+use native.Mathlib.Decide.{dec_lt}
+use Rattle.plan.specs.Filed.{zone_count_of, entry_of, owner_below}
+use Rattle.plan.specs.FiledFacts.{Kept, entry_rises, owned}
 
-past : (b : List ℕ) (i z n : ℕ) → z ≤ n → ((k : ℕ) → z ≤ k → k < n → i < entry_of b k) → owner_below b i z ≡ owner_below b i n
-past b i z zero l h = subst (λ (x : ℕ). owner_below b i z ≡ owner_below b i x) (let e : z ≡ 0 = omega arith in e) refl
-past b i z (suc n) l h = ⊎_elim
-    (λ e. subst (λ (x : ℕ). owner_below b i z ≡ owner_below b i x) e refl)
-    (λ m. past b i z n (omega arith) (λ k p q. h k p (omega arith)) ∙ subst (λ (x : ℕ). owner_below b i n ≡ owner_below b i x) (add-one n) (owner_past b i n (h n (omega arith) (omega arith))))
-    (eq-or-lt_of_le {n = z} {m = suc n} l)
+pub owner_low : (b : List ℕ) → Kept b → (i : ℕ) → owner_below b i (zone_count_of b) < zone_count_of b
+owner_low b k i = (owned b k i (zone_count_of b) k.frame.some_zone).below
 
-entry : (b : List ℕ) (z : ℕ) → z < zone_count_of b → start_of b z ≡ entry_of b z
-entry b z l = ap (λ t. cond t (entry_of b z) (count_of b)) (lt-ltb z (zone_count_of b) l)
+pub owner_from : (b : List ℕ) → Kept b → (i z : ℕ) → z < zone_count_of b → entry_of b z ≤ i → z ≤ owner_below b i (zone_count_of b)
+owner_from b k i z l h =
+    let o = owned b k i (zone_count_of b) k.frame.some_zone in
+    elim (dec_lt (owner_below b i (zone_count_of b)) z) [
+      | yes x ↦ absurd (let p = o.past z x l in omega (arith, h, p))
+      | no x ↦ omega arith
+    ]
 
-pub last_owns : (b : List ℕ) (i : ℕ) (o : Option ℕ) → IsLastPassing (λ z. leb (start_of b z) i) (zone_count_of b) o → unwrap_or o 0 ≡ owner_below b i (zone_count_of b)
-last_owns b i (Some z) h =
-    owner_here b i z (omega (arith, entry b z h.0, leb-true (start_of b z) i h.1))
-    ∙ past b i (z + 1) (zone_count_of b) (omega (arith, h.0)) (λ k p q. omega (arith, entry b k q, leb-false (start_of b k) i (h.2 k (omega arith) q)))
-last_owns b i None h = owner_zero b i ∙ past b i 0 (zone_count_of b) (omega arith) (λ k p q. omega (arith, entry b k q, leb-false (start_of b k) i (h k q)))
+pub owner_under : (b : List ℕ) → Kept b → (i z : ℕ) → z < zone_count_of b → i < entry_of b z → owner_below b i (zone_count_of b) < z
+owner_under b k i z l h =
+    let o = owned b k i (zone_count_of b) k.frame.some_zone in
+    elim (dec_lt (owner_below b i (zone_count_of b)) z) [
+      | yes x ↦ x
+      | no x ↦ absurd (let p = entry_rises b k z (owner_below b i (zone_count_of b)) (omega arith) o.below in omega (arith, h, p, o.starts))
+    ]

@@ -1,16 +1,14 @@
 -- What a closure that is called at each number of a range has found.
 use Rattle.std.proofs.Common.{◌≡◌, ℕ, zero, suc, ◌<◌, ◌≤◌, Bool, true, false, List, [], ◌∷◌, is_some, Some, None, Option, sym, ap, ◌∙◌, subst, add-one, arith, ⊎_elim, eq-or-lt_of_le}
 use Rattle.std.specs.List.{FoldsTo}
-use Rattle.std.specs.Fn.{Called, CalledAt}
-use Rattle.std.specs.Iterator.{Yields, YieldsThen, ChecksAny, TryCallsOnEach, FindsItem}
+use Rattle.std.specs.Fn.{Called}
+use Rattle.std.specs.Iterator.{Yields, YieldsThen, ChecksAny, TryCallsOnEach}
 use Rattle.std.specs.Option.{MatchOption}
 use Rattle.std.specs.Result.{IsErr, IsErrAnd, result_from_control_flow}
 use Rattle.std.specs.declared.result.Result.{Result}
 use Rattle.std.specs.declared.result.Result.TheVariants.{Ok, Err}
 use Rattle.std.specs.declared.ops.Range.{Range}
 use Rattle.std.proofs.iter.Yields.{nat_range_steps}
-use Rattle.std.proofs.iter.runs.Sources.{nat_range_steps_back}
-use denote.Ref.{Bor}
 use denote.Param.Members.{Mut}
 use Rattle.plan.specs.First.{when, first_below, FaultIs}
 use Rattle.plan.specs.FirstFacts.{first_zero, first_more, first_at}
@@ -100,55 +98,3 @@ try_below {F} {E} g s u f r n fault c z m says = let w = stopped Fine f (λ x q 
         let hit : fault x ≡ Some (of h.2) = subst (FaultIs (fault x)) h.4 (says x h.0 h.1 (subst (λ i. Called g i (x, tt) h.0 h.1) e h.3)).1 in
         let before = none_below fault x (λ k l. pass k (w.2 k (omega arith) l)) in
         broken x (of h.2) r (first_at fault x n (of h.2) (omega (arith, w.1)) before hit) h.5
-
--- the same from the top of a range downwards
-record Descended {F : Type 0} (R : F → ℕ → F → Type 0) (f : F) (s t : Range ℕ) (j : F) : Type 0 where
-  same : j ≡ f
-  start : t.start ≡ s.start
-  end : t.end ≤ s.end
-  held : (k : ℕ) → t.end ≤ k → k < s.end → R f k f
-
-module _ {F S : Type 0} (R : F → ℕ → F → Type 0) (f : F) (keeps : (x : ℕ) (q : F) → R f x q → q ≡ f) (range : S → Range ℕ) where
-  descend : (xs : List ℕ) (s t : S) (j : F) → Yields (λ p r q. nat_range_steps_back (range p) r (range q)) s xs t → FoldsTo R f xs j → Descended R f (range s) (range t) j
-  descend [] s t j y c = record {
-    same = sym c;
-    start = ap (λ (r : S). (range r).start) (sym y);
-    end = omega (arith, ap (λ (r : S). (range r).end) y);
-    held = λ k l m. absurd (omega (arith, ap (λ (r : S). (range r).end) y));
-  }
-  descend (x ∷ xs) s t j y c =
-      let e = keeps x c.0 c.1 in
-      let w = descend xs y.0 t j y.2 (subst (λ i. FoldsTo R i xs j) e c.2) in
-      let at : R f (range y.0).end f = subst (λ (k : ℕ). R f k f) y.1.1.1 (subst (R f x) e c.1) in
-      record {
-        same = w.same;
-        start = w.start ∙ y.1.0;
-        end = omega (arith, w.end, y.1.1.2);
-        held = λ k l m. ⊎_elim (λ q. subst (λ (i : ℕ). R f i f) (sym q) at) (λ q. w.held k l q) (eq-or-lt_of_le {n = k} {m = (range y.0).end} (omega (arith, y.1.1.2)));
-      }
-
--- the last number below n that passes, if one does
-abbrev pub IsLastPassing : (ℕ → Bool) → ℕ → Option ℕ → Type 0
-IsLastPassing test n (Some x) = (x < n) × (test x ≡ true) × ((k : ℕ) → x < k → k < n → test k ≡ false)
-IsLastPassing test n None = (k : ℕ) → k < n → test k ≡ false
-
--- `rev` and `find` over the numbers below n
-pub last_found : {F S : Type 0} (range : S → Range ℕ) (g : Mut F (Bor ℕ × Unit {0}) Bool) (s u : S) (f : F) (r : Option ℕ) (n : ℕ) (test : ℕ → Bool)
-    → FindsItem (λ p v q. nat_range_steps_back (range p) v (range q)) g s f r u → (range s).start ≡ 0 → (range s).end ≡ n
-    → ((x : ℕ) (b : Bool) (q : F) → CalledAt g f x b q → (q ≡ f) × (b ≡ test x))
-    → IsLastPassing test n r
-last_found {F} range g s u f r n test c z m says = go r c.2 c.4
-  where
-    No : F → ℕ → F → Type 0
-    No p x q = CalledAt g p x false q
-
-    go : (o : Option ℕ) → YieldsThen (λ p v q. nat_range_steps_back (range p) v (range q)) s c.0 o u → MatchOption o (Unit {0}) (λ x. (h : F) × CalledAt g c.1 x true h) → IsLastPassing test n o
-    go None y h =
-        let w = descend No f (λ x q d. (says x false q d).0) range c.0 s y.0 c.1 y.1 c.3 in
-        λ k l. sym (says k false f (w.held k (omega (arith, w.start, y.2.1.0)) (omega arith))).1
-    go (Some x) y h =
-        let w = descend No f (λ x q d. (says x false q d).0) range c.0 s y.0 c.1 y.1 c.3 in (
-          omega (arith, w.end, y.2.1.0, y.2.1.1, y.2.1.2),
-          sym (says x true h.0 (subst (λ i. CalledAt g i x true h.0) w.same h.1)).1,
-          λ k l q. sym (says k false f (w.held k (omega (arith, y.2.1.1, y.2.1.2)) (omega arith))).1,
-        )

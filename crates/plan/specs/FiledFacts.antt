@@ -86,7 +86,7 @@ entry_step b z e =
     subst (λ (y : ℕ). entry_of b y ≤ entry_of b (suc z)) p (ltb-false _ _ g)
 
 -- the entries rise
-entry_rises : (b : List ℕ) → Kept b → (z y : ℕ) → z ≤ y → y < zone_count_of b → entry_of b z ≤ entry_of b y
+pub entry_rises : (b : List ℕ) → Kept b → (z y : ℕ) → z ≤ y → y < zone_count_of b → entry_of b z ≤ entry_of b y
 entry_rises b k z zero l h = subst (λ (x : ℕ). entry_of b x ≤ entry_of b 0) (let q : 0 ≡ z = omega arith in q) (omega arith)
 entry_rises b k z (suc y) l h = ⊎_elim
     (λ q. subst (λ (x : ℕ). entry_of b z ≤ entry_of b x) q (omega arith))

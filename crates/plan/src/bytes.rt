@@ -1,7 +1,7 @@
 // The bytes of a plan file, and whether they are in order.
 ghost use Rattle.std.specs.Prelude.{◌≡◌, ℕ, ◌+◌, ◌*◌, ◌<◌, ◌≤◌, true, length, is_some, IfOk, slice_index_or, None};
 ghost use Rattle.plan.specs.First.{first_below, FaultIs};
-ghost use Rattle.plan.specs.Filed.{Framed, word_at, zone_count_of, count_of, body_place_lem, number_of, destination_of, kind_of, body_below_lem, owner_below, head_fault, entry_fault, body_fault, file_fault, start_of, LeastAmong, accepted};
+ghost use Rattle.plan.specs.Filed.{Framed, word_at, zone_count_of, count_of, entry_of, body_place_lem, number_of, destination_of, kind_of, body_below_lem, owner_below, head_fault, entry_fault, body_fault, file_fault, start_of, LeastAmong, accepted};
 
 use fault::PlanFault;
 
@@ -75,12 +75,19 @@ impl<'a> PlanFile<'a> {
         word(self.bytes, 1)
     }
 
+    fn entry(&self, zone: usize) -> usize
+        requires { zone < zone_count_of self.now.bytes.now }
+        ensures { result ≡ entry_of self.now.bytes.now zone }
+    {
+        word(self.bytes, 3 + 2 * zone)
+    }
+
     /// Where the bodies of the zone start, and past the last zone how many bodies there are.
     pub(crate) fn start(&self, zone: usize) -> usize
         ensures { result ≡ start_of self.now.bytes.now zone }
     {
         if zone < self.zones() as usize {
-            word(self.bytes, 3 + 2 * zone)
+            self.entry(zone)
         } else {
             self.count()
         }
@@ -109,12 +116,21 @@ impl<'a> PlanFile<'a> {
 
     /// The zone that the body belongs to: the last that does not start after it.
     pub(crate) fn owner(&self, body: usize) -> u8
+        requires { accepted self.now.bytes.now ≡ true }
         ensures { result ≡ owner_below self.now.bytes.now body (zone_count_of self.now.bytes.now) }
     {
-        (0..self.zones())
-            .rev()
-            .find(|zone| self.start(*zone as usize) <= body)
-            .unwrap_or(0)
+        // halved by hand, since every step of a search asks it: a range of zones has no method that does so
+        let mut owner = 0;
+        let mut end = self.zones() as usize;
+        while owner + 1 < end {
+            let middle = (owner + end) / 2;
+            if self.entry(middle) <= body {
+                owner = middle;
+            } else {
+                end = middle;
+            }
+        }
+        owner as u8
     }
 
     fn check_entry(&self, zone: usize) -> Result<(), PlanFault>

@@ -42,6 +42,15 @@ pub fn look_up(name: &[u8], place: usize) -> Result<Word, PatternFault>
     }
 }
 
+impl Word {
+    /// The symbol that the word is converted to.
+    pub fn symbol(self) -> Symbol
+        ensures { result ≡ meaning self }
+    {
+        Symbol::from(self)
+    }
+}
+
 impl From<Word> for Symbol {
     ghost from_gives = { λ w r. r ≡ meaning w };
 

@@ -1,5 +1,5 @@
 -- From the answer that follows to the answer that is delivered.
-use Rattle.std.proofs.Common.{◌≡◌, ℕ, true, false, List, [], ◌∷◌, sym, refl, ap, ◌∙◌, subst}
+use Rattle.std.proofs.Common.{◌≡◌, ℕ, Bool, true, false, List, [], ◌∷◌, sym, refl, ap, ◌∙◌, subst}
 use Rattle.route.specs.Tracks.{Track}
 use Rattle.search.specs.Spaces.{Code, Space, Goal, Earlier}
 use Rattle.search.specs.Listings.{Standing, codes_of, route_at, Followed, ToCome, Delivered}
@@ -54,3 +54,16 @@ module _ (t : Space) (p : Progress) (s e : Track) (passed : Passed t p) (same : 
   pub deliver_none : (d : Track) → (Standing t s → Followed t s false e) → Standing t (trail p) → Delivered t (begun p) (trail p) false d
   unfolding Delivered Followed
   deliver_none d f st w a k = subst (λ (x : Track). Standing t x → Followed t x false e) same f st w a (same_to t p passed w a k)
+
+  pub delivered : (r : Bool) → (Standing t s → Followed t s r e) → Standing t (trail p) → Delivered t (begun p) (trail p) r e
+  delivered true f st = deliver_found f st
+  delivered false f st = deliver_none e f st
+
+-- Where no answer is to come, it is no matter at which track that is said.
+pub none_comes : (t : Space) (b r : Bool) (s e d : Track) → r ≡ false → Delivered t b s r e → Delivered t b s r d
+unfolding Delivered
+none_comes t b true s e d f h = absurd (not_both true refl f)
+none_comes t b false s e d f h = h
+
+pub none_left : (t : Space) (b r : Bool) (s e d : Track) → r ≡ false → Delivered t b s r e → Delivered t b s false d
+none_left t b r s e d f h = subst (λ (x : Bool). Delivered t b s x d) f (none_comes t b r s e d f h)

@@ -2,9 +2,9 @@
 ghost use Rattle.std.specs.Prelude.{◌≡◌, ℕ, ◌<◌, ◌≤◌, true, false};
 ghost use Rattle.route.specs.Reading.{track_of};
 ghost use Rattle.search.specs.Hunts.{space_at};
-ghost use Rattle.search.specs.Listings.{Standing, Followed};
+ghost use Rattle.search.specs.Listings.{Standing, Followed, Delivered};
 ghost use Rattle.search.specs.Spaces.{Sought, Only, Marks, Onward};
-ghost use Rattle.search.specs.Trails.{trail, Comes};
+ghost use Rattle.search.specs.Trails.{trail, begun, placed, Comes};
 
 use crate::cursor::Cursor;
 use crate::progress::Progress;
@@ -22,6 +22,8 @@ pub struct Search<P: Plan, R: Rule> {
 
 impl<P: Plan, R: Rule> Search<P, R> {
     /// The zone and the states that one more step reaches, if it may be added.
+    // every step that a search tries goes through it
+    #[inline]
     pub fn reach(&self, cursor: &Cursor, route: &Route, passage: u8, mark: u8) -> Option<(u8, u32)>
         ensures { result ≡ (space_at P.Plan.meaning R.Rule.meaning self.now cursor.now).reach (track_of route.now) (record { passage = passage; mark = mark }) }
     {
@@ -115,15 +117,45 @@ impl<P: Plan, R: Rule> Search<P, R> {
         }
     }
 
+    /// Whether an answer comes next. The lent route is that answer then, and of no use where none comes. It is lent, whatever
+    /// it held, since a route is large, and one that is handed back is copied.
+    pub fn arrive(&self, cursor: &Cursor, route: &mut Route) -> bool
+        ensures { Standing (space_at P.Plan.meaning R.Rule.meaning self.now cursor.now) (trail cursor.now.progress) → Delivered (space_at P.Plan.meaning R.Rule.meaning self.now cursor.now) (begun cursor.now.progress) (trail cursor.now.progress) result (track_of route.new) }
+    {
+        match &cursor.progress {
+            Progress::AtFront(start) => {
+                *route = Route::new(*start);
+                self.is_answer(cursor, route) || self.follow(cursor, route)
+            }
+            Progress::Behind(last) => {
+                *route = *last;
+                self.follow(cursor, route)
+            }
+        }
+    }
+
     /// The answer that comes next, if one does.
     pub fn next_answer(&self, cursor: &Cursor) -> Option<Route>
         ensures { Standing (space_at P.Plan.meaning R.Rule.meaning self.now cursor.now) (trail cursor.now.progress) → Comes (space_at P.Plan.meaning R.Rule.meaning self.now cursor.now) cursor.now.progress result }
     {
-        let mut route = cursor.progress.route();
-        let found = match cursor.progress {
-            Progress::AtFront(_) if self.is_answer(cursor, &route) => true,
-            _ => self.follow(cursor, &mut route),
-        };
+        let mut route = Route::new(cursor.progress.start());
+        let found = self.arrive(cursor, &mut route);
         if found { Some(route) } else { None }
+    }
+
+    /// Goes to the answer that comes next, stands behind it and says `true`; or stays, where none does.
+    // a flag: the answer is in the cursor
+    pub fn advance(&self, cursor: &mut Cursor) -> bool
+        ensures told { Standing (space_at P.Plan.meaning R.Rule.meaning self.now cursor.old) (trail cursor.old.progress) → Delivered (space_at P.Plan.meaning R.Rule.meaning self.now cursor.old) (begun cursor.old.progress) (trail cursor.old.progress) result (trail cursor.new.progress) }
+        ensures asks { cursor.new ≡ placed cursor.old cursor.new.progress }
+        ensures none { result ≡ false → cursor.new ≡ cursor.old }
+        ensures some { result ≡ true → begun cursor.new.progress ≡ true }
+    {
+        let mut route = Route::new(cursor.progress.start());
+        let found = self.arrive(cursor, &mut route);
+        if found {
+            cursor.progress = Progress::Behind(route);
+        }
+        found
     }
 }

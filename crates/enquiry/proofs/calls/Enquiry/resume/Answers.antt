@@ -1,4 +1,8 @@
+use Rattle.std.proofs.Common.{Ok, Some}
+use Rattle.model.specs.Calls.{Resume}
 use Rattle.enquiry.proofs.Judged.{formed_two, resume_refused, resume_faulty, resume_none, resume_some}
+use Rattle.search.specs.declared.progress.Progress.TheVariants.{Behind}
+use Rattle.enquiry.proofs.Cursors.{moved}
 use Rattle.enquiry.proofs.calls.Enquiry.resume.Goals as goal
 
 pub returns-in_default-clause-relation : goal.returns-in_default-clause-relation
@@ -15,5 +19,6 @@ returns-in_default-walk-clause-relation g c = rw c.in-Some.is (resume_none _ _ (
 
 pub returns-clause-relation : goal.returns-clause-relation
 returns-clause-relation g c =
-    rw (c.in-Some.is, c.with_progress.ensures)
-    (resume_some _ _ (g.met.R.Rule.keeps c.args.self.now.search.rule) _ c.in-Some.cursor _ c.in-Some-walk.route c.in_default-malformed.ensures c.in-Some-walk.ensures)
+    rw c.in-Some.is
+    (moved _ _ _ (λ n s u. Resume n s c.args.words.now (Ok tt) u) (Some c.in-Some.cursor) c.in-Some.cursor (Behind c.in-Some-walk.route) _
+    (resume_some _ _ (g.met.R.Rule.keeps c.args.self.now.search.rule) _ c.in-Some.cursor _ c.in-Some-walk.route c.in_default-malformed.ensures c.in-Some-walk.ensures))
